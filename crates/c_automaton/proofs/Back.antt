@@ -18,7 +18,7 @@ use Rattle.c_syntax.specs.Tokens.{Token}
 use Rattle.c_syntax.specs.Grammar.{Bounds, expr_depth, IsCall}
 use Rattle.c_syntax.specs.Spelling.{prefix_sign, expr_then, arg_token, call_then, stmt_then}
 use Rattle.c_automaton.specs.Automaton as a
-use Rattle.c_automaton.specs.Automaton.{Symbol, parens_in, Reaction, is_string_taker, with_behind, react_operand, react_inside, react_operation, react_operand_end, react_arg, react_args, react_more_args, react}
+use Rattle.c_automaton.specs.Automaton.{Symbol, parens_in, Reaction, is_string_taker, with_after, react_operand, react_inside, react_operation, react_operand_end, react_arg, react_args, react_more_args, react}
 use Rattle.c_automaton.proofs.Exprs.{MayStand, some_depth}
 use Rattle.c_automaton.proofs.Parts.{Rest, reference, kind_word, Part, Spells, Backs}
 
@@ -39,16 +39,16 @@ back_operand b ys K ts (t.variable v) = variable_back b v.reference v.number ys 
 back_operand b ys K ts (t.sign s.OpenParen) = λ fits k p. k (omega (arith, fits, p))
 back_operand b ys K ts _ = tt
 
--- what begins with an operand that one symbol stands behind
+-- what begins with an operand that one symbol stands after
 through_variable : (b : Bounds) (y z : Symbol) (r : Bool) (n : ℕ) (ys : List Symbol) (K : Rest) (ts : List Token)
     → (Part b a.operand (z ∷ ys) (Spells b (z ∷ ys) K) (t.variable (record { reference = r; number = n }) ∷ ts) → Part b y ys (Spells b ys K) (t.variable (record { reference = r; number = n }) ∷ ts))
-    → Backs b y ys K ts (t.variable (record { reference = r; number = n })) (with_behind (if r then a.take (a.operand_end ∷ []) else a.take []) (z ∷ []))
+    → Backs b y ys K ts (t.variable (record { reference = r; number = n })) (with_after (if r then a.take (a.operand_end ∷ []) else a.take []) (z ∷ []))
 through_variable b y z true n ys K ts f = λ k. f (variable_back b true n (z ∷ ys) K ts k)
 through_variable b y z false n ys K ts f = λ k. f (variable_back b false n (z ∷ ys) K ts k)
 
 pub through : (b : Bounds) (y z : Symbol) (ys : List Symbol) (K : Rest) (ts : List Token) (x : Token)
     → (Part b a.operand (z ∷ ys) (Spells b (z ∷ ys) K) (x ∷ ts) → Part b y ys (Spells b ys K) (x ∷ ts))
-    → Backs b y ys K ts x (with_behind (react_operand x) (z ∷ []))
+    → Backs b y ys K ts x (with_after (react_operand x) (z ∷ []))
 through b y z ys K ts (t.number n) f = λ k. f (back_operand b (z ∷ ys) K ts (t.number n) k)
 through b y z ys K ts (t.word w.Null) f = λ k. f (back_operand b (z ∷ ys) K ts (t.word w.Null) k)
 through b y z ys K ts (t.variable v) f = through_variable b y z v.reference v.number ys K ts f
@@ -61,7 +61,7 @@ abbrev pub cell_in : Bool → (n k : ℕ) → CCell
 cell_in true n k = cell.Reference n k
 cell_in false n k = cell.Number n k
 
--- behind the arrow
+-- after the arrow
 abbrev pub tail_tokens : Bool → (k : ℕ) → List Token → List Token
 tail_tokens r k rest = t.word (kind_word r) ∷ t.sign s.OpenBracket ∷ t.number (pos k) ∷ t.sign s.CloseBracket ∷ rest
 
@@ -154,10 +154,10 @@ back_arg b false ys K ts (t.variable v) = λ k. (c.variable v, ts, tt, refl, k)
 back_arg b false ys K ts (t.word w.Null) = λ k. (c.null, ts, tt, refl, k)
 back_arg b false ys K ts _ = tt
 
--- what begins with an argument that another symbol stands behind
+-- what begins with an argument that another symbol stands after
 through_arg : (b : Bounds) (y z : Symbol) (n : Bool) (ys : List Symbol) (K : Rest) (ts : List Token) (x : Token)
     → (Part b (a.arg n) (z ∷ ys) (Spells b (z ∷ ys) K) (x ∷ ts) → Part b y ys (Spells b ys K) (x ∷ ts))
-    → Backs b y ys K ts x (with_behind (react_arg n x) (z ∷ []))
+    → Backs b y ys K ts x (with_after (react_arg n x) (z ∷ []))
 through_arg b y z n ys K ts (t.number m) f = λ k. f (back_arg b n (z ∷ ys) K ts (t.number m) k)
 through_arg b y z n ys K ts (t.variable v) f = λ k. f (back_arg b n (z ∷ ys) K ts (t.variable v) k)
 through_arg b y z n ys K ts (t.word w.Null) f = λ k. f (back_arg b n (z ∷ ys) K ts (t.word w.Null) k)
@@ -215,7 +215,7 @@ primitive_stands prim.Out xs h = h
 primitive_stands prim.Back xs h = h
 primitive_stands prim.End xs h = h
 
--- a call behind its name
+-- a call after its name
 abbrev pub CallTail : Bounds → List Symbol → Rest → Token → List Token → Type 0
 CallTail b zs K first ts = (f : Call) × (rest : List Token) × IsCall f × (first ∷ ts ≡ call_then f rest) × Spells b zs K rest
 

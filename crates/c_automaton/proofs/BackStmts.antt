@@ -17,7 +17,7 @@ use Rattle.c_syntax.specs.Tokens.{Token}
 use Rattle.c_syntax.specs.Grammar.{Bounds, HasArities, expr_depth, IsCall, IsWritten, AreWritten, deepest_in, deepest, nested_in, nested, AreBodies}
 use Rattle.c_syntax.specs.Spelling.{type_then, result_then, head_then, vars_then, expr_then, call_then, stmt_then, stmts_then, bodies_then}
 use Rattle.c_automaton.specs.Automaton as a
-use Rattle.c_automaton.specs.Automaton.{Symbol, blocks_in, Reaction, word_number, sign_number, react_operand, react_value, react_return, react_reference, react_otherwise, react_stmts, react_behind_head, react_params, react_more_params, react_body, react}
+use Rattle.c_automaton.specs.Automaton.{Symbol, blocks_in, Reaction, word_number, sign_number, react_operand, react_value, react_return, react_reference, react_otherwise, react_stmts, react_after_head, react_params, react_more_params, react_body, react}
 use Rattle.c_automaton.proofs.Same.{same_word, same_sign}
 use Rattle.c_automaton.proofs.Parts.{Rest, reference, HasRoom, Part, Spells, Backs}
 use Rattle.c_automaton.proofs.Back.{if_back, back_operand, through, tail_tokens, cell_in, cell_tail, put_spelled, back_operand_end, back_cell_kind, back_inside, back_operation, back_arg, back_args, back_more_args, function_tail, primitive_tail}
@@ -67,7 +67,7 @@ set_of b v zs K ts (inr q) =
 assigned : (b : Bounds) (v : CVar) (zs : List Symbol) (K : Rest) (ts : List Token) → 1 ≤ b.expressions → Spells b (a.value ∷ a.sign s.Semicolon ∷ zs) K ts → Assigned b zs K v ts
 assigned b v zs K ts some k = set_of b v zs K ts (k some)
 
-back_reference : (b : Bounds) (ys : List Symbol) (K : Rest) (ts : List Token) (x : Token) → 1 ≤ b.expressions → Backs b a.behind_reference ys K ts x (react_reference x)
+back_reference : (b : Bounds) (ys : List Symbol) (K : Rest) (ts : List Token) (x : Token) → 1 ≤ b.expressions → Backs b a.after_reference ys K ts x (react_reference x)
 back_reference b ys K ts (t.sign s.Arrow) some = λ k n.
     let q = cell_tail b (a.sign s.Assign ∷ a.operand ∷ a.sign s.Semicolon ∷ ys) K ts k in
     let equals = q.4 in
@@ -87,7 +87,7 @@ back_reference b ys K ts (t.sign s.Assign) some = λ k n. assigned b (record { r
 back_reference b ys K ts _ some = tt
 
 variable_begins : (b : Bounds) (n r : Bool) (m : ℕ) (ys : List Symbol) (K : Rest) (ts : List Token) → 1 ≤ b.expressions
-    → Backs b (a.stmts n) ys K ts (t.variable (record { reference = r; number = m })) (if r then a.take (a.behind_reference ∷ a.stmts n ∷ []) else a.take (a.sign s.Assign ∷ a.value ∷ a.sign s.Semicolon ∷ a.stmts n ∷ []))
+    → Backs b (a.stmts n) ys K ts (t.variable (record { reference = r; number = m })) (if r then a.take (a.after_reference ∷ a.stmts n ∷ []) else a.take (a.sign s.Assign ∷ a.value ∷ a.sign s.Semicolon ∷ a.stmts n ∷ []))
 variable_begins b n true m ys K ts some = λ k p.
     let q = k m in
     one_more b n ys K (reference m ∷ ts) q.1 q.0 q.2 q.3 (flat (nested_in q.0) (blocks_in (a.stmts n ∷ ys)) (b.blocks - 1) q.4 p) q.5 q.6 p
@@ -151,16 +151,16 @@ back_otherwise b ys K ts (t.word w.Else) = λ k p.
     inr (q.0, q.1, q.2, q.3, q.4, ap (λ r. t.word w.Else ∷ r) (k.1 ∙ ap (λ r. t.sign s.OpenBrace ∷ r) q.5), q.6)
 back_otherwise b ys K ts x = λ k p. inl k
 
-returned_value : (b : Bounds) (ys : List Symbol) (K : Rest) (ts : List Token) → 1 ≤ b.expressions → Part b a.operand (a.sign s.Semicolon ∷ ys) (Spells b (a.sign s.Semicolon ∷ ys) K) ts → Part b a.behind_return ys (Spells b ys K) ts
+returned_value : (b : Bounds) (ys : List Symbol) (K : Rest) (ts : List Token) → 1 ≤ b.expressions → Part b a.operand (a.sign s.Semicolon ∷ ys) (Spells b (a.sign s.Semicolon ∷ ys) K) ts → Part b a.after_return ys (Spells b ys K) ts
 returned_value b ys K ts some m =
     let q = m some in
     let end = q.5 in
     let whole : expr_depth q.0 ≤ b.expressions = let deep = q.3 in omega (arith, deep) in
     (Some q.0, end.0, q.2, whole, ap (λ r. t.word w.Return ∷ r) (q.4 ∙ ap (expr_then q.0) end.1), end.2)
 
-back_return : (b : Bounds) (ys : List Symbol) (K : Rest) (ts : List Token) (x : Token) → 1 ≤ b.expressions → Backs b a.behind_return ys K ts x (react_return x)
+back_return : (b : Bounds) (ys : List Symbol) (K : Rest) (ts : List Token) (x : Token) → 1 ≤ b.expressions → Backs b a.after_return ys K ts x (react_return x)
 back_return b ys K ts (t.sign s.Semicolon) some = λ k. (None, ts, tt, omega arith, refl, k)
-back_return b ys K ts x some = through b a.behind_return (a.sign s.Semicolon) ys K ts x (returned_value b ys K (x ∷ ts) some)
+back_return b ys K ts x some = through b a.after_return (a.sign s.Semicolon) ys K ts x (returned_value b ys K (x ∷ ts) some)
 
 -- a reaction of one symbol as that of another that it can stand for
 mapped : (b : Bounds) (y z : Symbol) (ys : List Symbol) (K : Rest) (ts : List Token) (x : Token) (r : Reaction)
@@ -253,7 +253,7 @@ head_tail b r zs K all ts is k =
     let ds = opening.2 in
     (k.0, ds.0, ds.1, is ∙ ap (result_then r) (k.2 ∙ ap (λ z. t.name k.0 ∷ z) (opening.1 ∙ ap (λ z. t.sign s.OpenParen ∷ z) ds.2)), ds.3)
 
--- what stands behind the opening brace of a body
+-- what stands after the opening brace of a body
 abbrev BodyTail : Bounds → List Symbol → Rest → Head → List Token → Type 0
 BodyTail b ys K h ts = (x : Body) × (bs : List Body) × (rest : List Token) × AreBodies b (x ∷ bs) × (head_then h (t.sign s.OpenBrace ∷ ts) ≡ bodies_then (x ∷ bs) rest) × Spells b ys K rest
 
@@ -270,15 +270,15 @@ body_tail b h ys K ts p k =
       more.4,
     )
 
-functions_begin : (b : Bounds) (r : CResult) (ys : List Symbol) (K : Rest) (all : List Token) → HeadTail b (a.behind_head ∷ ys) K r all → Part b a.functions ys (Spells b ys K) all
+functions_begin : (b : Bounds) (r : CResult) (ys : List Symbol) (K : Rest) (all : List Token) → HeadTail b (a.after_head ∷ ys) K r all → Part b a.functions ys (Spells b ys K) all
 functions_begin b r ys K all k = λ p.
     let q = k.4 p (head_with r k.0 k.1) in
     (q.0, q.1, q.2, q.3, k.3 ∙ q.4, q.5)
 
 back_functions : (b : Bounds) (ys : List Symbol) (K : Rest) (ts : List Token) (x : Token) → Backs b a.functions ys K ts x (react a.functions x)
-back_functions b ys K ts (t.word w.Void) = λ k. functions_begin b result.Nothing ys K (t.word w.Void ∷ ts) (head_tail b result.Nothing (a.behind_head ∷ ys) K (t.word w.Void ∷ ts) ts refl k)
-back_functions b ys K ts (t.word w.Ref) = λ k. functions_begin b result.Reference ys K (t.word w.Ref ∷ ts) (head_tail b result.Reference (a.behind_head ∷ ys) K (t.word w.Ref ∷ ts) ts refl k)
-back_functions b ys K ts (t.word w.Long) = λ k. functions_begin b result.Number ys K (t.word w.Long ∷ ts) (head_tail b result.Number (a.behind_head ∷ ys) K (t.word w.Long ∷ ts) k.0 (ap (λ z. t.word w.Long ∷ z) k.1) k.2)
+back_functions b ys K ts (t.word w.Void) = λ k. functions_begin b result.Nothing ys K (t.word w.Void ∷ ts) (head_tail b result.Nothing (a.after_head ∷ ys) K (t.word w.Void ∷ ts) ts refl k)
+back_functions b ys K ts (t.word w.Ref) = λ k. functions_begin b result.Reference ys K (t.word w.Ref ∷ ts) (head_tail b result.Reference (a.after_head ∷ ys) K (t.word w.Ref ∷ ts) ts refl k)
+back_functions b ys K ts (t.word w.Long) = λ k. functions_begin b result.Number ys K (t.word w.Long ∷ ts) (head_tail b result.Number (a.after_head ∷ ys) K (t.word w.Long ∷ ts) k.0 (ap (λ z. t.word w.Long ∷ z) k.1) k.2)
 back_functions b ys K ts _ = tt
 
 bodies_begin : (b : Bounds) (r : CResult) (ys : List Symbol) (K : Rest) (all : List Token) → HeadTail b (a.sign s.OpenBrace ∷ a.body ∷ a.bodies ∷ ys) K r all → Part b a.bodies ys (Spells b ys K) all
@@ -294,14 +294,14 @@ back_bodies b ys K ts (t.word w.Ref) = λ k. bodies_begin b result.Reference ys 
 back_bodies b ys K ts (t.word w.Long) = λ k. bodies_begin b result.Number ys K (t.word w.Long ∷ ts) (head_tail b result.Number (a.sign s.OpenBrace ∷ a.body ∷ a.bodies ∷ ys) K (t.word w.Long ∷ ts) k.0 (ap (λ z. t.word w.Long ∷ z) k.1) k.2)
 back_bodies b ys K ts _ = tt
 
-back_behind_head : (b : Bounds) (ys : List Symbol) (K : Rest) (ts : List Token) (x : Token) → Backs b a.behind_head ys K ts x (react_behind_head x)
-back_behind_head b ys K ts (t.sign s.Semicolon) = λ k p h.
+back_after_head : (b : Bounds) (ys : List Symbol) (K : Rest) (ts : List Token) (x : Token) → Backs b a.after_head ys K ts x (react_after_head x)
+back_after_head b ys K ts (t.sign s.Semicolon) = λ k p h.
     let q = k p in
     (h ∷ q.0, q.1, q.2, q.3, ap (λ z. head_then h (t.sign s.Semicolon ∷ z)) q.4, q.5)
-back_behind_head b ys K ts (t.sign s.OpenBrace) = λ k p h.
+back_after_head b ys K ts (t.sign s.OpenBrace) = λ k p h.
     let q = body_tail b h ys K ts p k in
     ([], q.0 ∷ q.1, q.2, q.3, q.4, q.5)
-back_behind_head b ys K ts _ = tt
+back_after_head b ys K ts _ = tt
 
 -- ---- any symbol
 
@@ -340,16 +340,16 @@ back b a.natural ys K ts _ some = tt
 back b a.one ys K ts x some = back_one b ys K ts x
 back b a.functions ys K ts x some = back_functions b ys K ts x
 back b a.bodies ys K ts x some = back_bodies b ys K ts x
-back b a.behind_head ys K ts x some = back_behind_head b ys K ts x
+back b a.after_head ys K ts x some = back_after_head b ys K ts x
 back b a.type ys K ts x some = back_type b ys K ts x
 back b a.params ys K ts x some = back_params b ys K ts x
 back b a.more_params ys K ts x some = back_more_params b ys K ts x
 back b a.body ys K ts x some = back_body b ys K ts x some
 back b (a.stmts n) ys K ts x some = back_stmts b n ys K ts x some
 back b a.otherwise ys K ts x some = back_otherwise b ys K ts x
-back b a.behind_reference ys K ts x some = back_reference b ys K ts x some
+back b a.after_reference ys K ts x some = back_reference b ys K ts x some
 back b a.value ys K ts x some = back_value b ys K ts x
-back b a.behind_return ys K ts x some = back_return b ys K ts x some
+back b a.after_return ys K ts x some = back_return b ys K ts x some
 back b a.cell_kind ys K ts x some = back_cell_kind b ys K ts x
 back b a.operand ys K ts x some = back_operand b ys K ts x
 back b a.operand_end ys K ts x some = back_operand_end b ys K ts x

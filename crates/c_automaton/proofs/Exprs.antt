@@ -15,7 +15,7 @@ use Rattle.c_syntax.specs.Tokens as t
 use Rattle.c_syntax.specs.Tokens.{Token}
 use Rattle.c_syntax.specs.Grammar.{Bounds, HasArities, expr_depth, HasNoText, IsCall}
 use Rattle.c_syntax.specs.Spelling.{prefix_sign, expr_then, args_then, more_args_then, call_then}
-use Rattle.c_automaton.specs.Automaton.{Symbol, sign, stmts, value, behind_return, operand, operand_end, inside, operation, closing, args, more_args, parens_in, take, open_paren, react_inside, is_string_taker, Next, to, over, next, step}
+use Rattle.c_automaton.specs.Automaton.{Symbol, sign, stmts, value, after_return, operand, operand_end, inside, operation, closing, args, more_args, parens_in, take, open_paren, react_inside, is_string_taker, Next, to, over, next, step}
 use Rattle.c_automaton.proofs.After.{bind, after}
 
 -- ---- an operand ends where no arrow comes
@@ -88,11 +88,11 @@ as_inside b c.null ys rest = refl
 as_inside b (c.unary o e) ys rest = refl
 as_inside b (c.binary o x y) ys rest = refl
 
-return_variable : (b : Bounds) (r : Bool) (ys : List Symbol) (n : ℕ) (rest : List Token) → after b (t.variable (record { reference = r; number = n }) ∷ rest) (behind_return ∷ ys) ≡ after b (t.variable (record { reference = r; number = n }) ∷ rest) (operand ∷ sign s.Semicolon ∷ ys)
+return_variable : (b : Bounds) (r : Bool) (ys : List Symbol) (n : ℕ) (rest : List Token) → after b (t.variable (record { reference = r; number = n }) ∷ rest) (after_return ∷ ys) ≡ after b (t.variable (record { reference = r; number = n }) ∷ rest) (operand ∷ sign s.Semicolon ∷ ys)
 return_variable b true ys n rest = refl
 return_variable b false ys n rest = refl
 
-pub as_returned : (b : Bounds) (e : Expr) (ys : List Symbol) (rest : List Token) → after b (expr_then e rest) (behind_return ∷ ys) ≡ after b (expr_then e rest) (operand ∷ sign s.Semicolon ∷ ys)
+pub as_returned : (b : Bounds) (e : Expr) (ys : List Symbol) (rest : List Token) → after b (expr_then e rest) (after_return ∷ ys) ≡ after b (expr_then e rest) (operand ∷ sign s.Semicolon ∷ ys)
 as_returned b (c.number z) ys rest = refl
 as_returned b (c.variable v) ys rest = return_variable b v.reference ys v.number rest
 as_returned b (c.cell (cell.Number p k)) ys rest = refl
@@ -124,15 +124,15 @@ take_expr b (c.cell (cell.Reference p k)) ys rest is deep ends = refl
 take_expr b c.null ys rest is deep ends = refl
 take_expr b (c.unary o e) ys rest is deep ends =
     let some = some_depth e in
-    let behind : List Token = t.operator (prefix_sign o) ∷ expr_then e (t.sign s.CloseParen ∷ rest) in
-    ap (bind (after b behind)) (opens b (inside ∷ []) ys (step b ys (t.sign s.OpenParen)) (omega (arith, deep, some)))
+    let following : List Token = t.operator (prefix_sign o) ∷ expr_then e (t.sign s.CloseParen ∷ rest) in
+    ap (bind (after b following)) (opens b (inside ∷ []) ys (step b ys (t.sign s.OpenParen)) (omega (arith, deep, some)))
     ∙ after_prefix b o ys (expr_then e (t.sign s.CloseParen ∷ rest)) is.0
     ∙ take_expr b e (closing ∷ ys) (t.sign s.CloseParen ∷ rest) is.1 (omega (arith, deep)) refl
 take_expr b (c.binary o x y) ys rest is deep ends =
     let some = some_depth x in
     let second : List Token = expr_then y (t.sign s.CloseParen ∷ rest) in
-    let behind : List Token = expr_then x (t.operator o ∷ second) in
-    ap (bind (after b behind)) (opens b (inside ∷ []) ys (step b ys (t.sign s.OpenParen)) (omega (arith, deep, some)))
+    let following : List Token = expr_then x (t.operator o ∷ second) in
+    ap (bind (after b following)) (opens b (inside ∷ []) ys (step b ys (t.sign s.OpenParen)) (omega (arith, deep, some)))
     ∙ as_inside b x ys (t.operator o ∷ second)
     ∙ take_expr b x (operation ∷ ys) (t.operator o ∷ second) is.1 (omega (arith, deep)) refl
     ∙ after_operator b o ys second is.0

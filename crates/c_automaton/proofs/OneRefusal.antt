@@ -58,9 +58,9 @@ shorter_all asked i ts c = let p = whole i ts in cut asked (take i ts) p.0 ts p.
 -- one token is the last of a text
 one_place : (ts : List Token) (i j : ℕ) → IsLastOf ts i → IsLastOf ts j → i ≡ j
 one_place ts i j p q = elim (cases_lt i j) [
-  | inl less ↦ absurd (p.behind (shorter within_limits (suc i) j ts less q.before))
+  | inl less ↦ absurd (p.following (shorter within_limits (suc i) j ts less q.before))
   | inr most ↦ elim (cases_lt j i) [
-    | inl less ↦ absurd (q.behind (shorter within_limits (suc j) i ts less p.before))
+    | inl less ↦ absurd (q.following (shorter within_limits (suc j) i ts less p.before))
     | inr least ↦ omega (arith, most, least)
   ]
 ]
@@ -92,7 +92,7 @@ one_kept b [] zs x e = absurd cc
 one_kept b (y ∷ ys) zs x e =
     one_way_next b ys zs (step b ys x) (step (keeps_blocks b) ys x) (step (keeps_expressions b) ys x) (react y x) (one_kept b ys zs x) e
 
--- what the automaton comes to behind the beginning of a text
+-- what the automaton comes to after the beginning of a text
 record Comes (b : Bounds) (ts : List Token) : Type 0 where
   stack : List Symbol
   comes : after b ts start ≡ to stack
@@ -103,7 +103,7 @@ comes asked ts c =
     let part = parted c.bounds ts c.more start all.last (subst (λ zs. after c.bounds zs start ≡ to all.last) c.spelled all.taken) in
     record { stack = part.middle; comes = part.first }
 
--- a token behind which a text goes on
+-- a token after which a text goes on
 record Steps (b : Bounds) (ys : List Symbol) (x : Token) : Type 0 where
   stack : List Symbol
   steps : step b ys x ≡ to stack
@@ -151,7 +151,7 @@ one_limit m n ts i (inr p) (inr q) = p.0 ∙ sym q.0
 -- ---- one refusal
 
 not_short : (ts : List Token) (i : ℕ) → IsLastOf ts i → Continues within_limits ts → ⊥
-not_short ts i p c = p.behind (shorter_all within_limits (suc i) ts c)
+not_short ts i p c = p.following (shorter_all within_limits (suc i) ts c)
 
 unlike : (ts : List Token) (i n j : ℕ) → IsUnexpectedAt ts i → ExceedsAt n ts j → ⊥
 unlike ts i n j p q = p.none (subst (λ k. Continues any_size (take (suc k) ts)) (sym (one_place ts i j p.last (last_over n ts j q))) (some_over n ts j q))
@@ -176,6 +176,6 @@ begun : (ts : List Token) (u : TranslationUnit) (i : ℕ) → IsUnit language u 
 begun ts u i is same = let p = whole i ts in record { bounds = language; is_asked = refl; unit = u; within = is; more = p.0; spelled = sym same ∙ p.1 }
 
 pub unit_not_refused : (ls : List Lexeme) → IsNeverBoth ls
-unit_not_refused ls u (unexpected_at at) is same (i, there, p) = p.last.behind (begun (tokens_in ls) u (suc i) is same)
+unit_not_refused ls u (unexpected_at at) is same (i, there, p) = p.last.following (begun (tokens_in ls) u (suc i) is same)
 unit_not_refused ls u cut_short is same p = p.none language u is (sym same)
-unit_not_refused ls u (over_limit n) is same (i, p) = (last_over n (tokens_in ls) i p).behind (begun (tokens_in ls) u (suc i) is same)
+unit_not_refused ls u (over_limit n) is same (i, p) = (last_over n (tokens_in ls) i p).following (begun (tokens_in ls) u (suc i) is same)

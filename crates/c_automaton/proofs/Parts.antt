@@ -16,7 +16,7 @@ use Rattle.c_automaton.specs.Automaton as a
 use Rattle.c_automaton.specs.Automaton.{Symbol, blocks_in, parens_in, Reaction}
 use Rattle.c_automaton.proofs.Exprs.{MayStand}
 
--- what comes behind
+-- what comes after
 abbrev pub Rest : Type 1
 Rest = List Token → Type 0
 
@@ -35,7 +35,7 @@ HasRoom b ys = blocks_in ys ≤ b.blocks - 1
 abbrev pub HasDepth : Bounds → List Symbol → Type 0
 HasDepth b ys = suc (parens_in ys) ≤ b.expressions
 
--- These tokens begin with what the symbol stands for, above those symbols, and what is asked for comes behind it.
+-- These tokens begin with what the symbol stands for, above those symbols, and what is asked for comes after it.
 abbrev pub Part : Bounds → Symbol → List Symbol → Rest → List Token → Type 0
 Part b a.include ys K ts = (rest : List Token) × (ts ≡ t.include ∷ rest) × K rest
 Part b a.line_end ys K ts = (rest : List Token) × (ts ≡ t.line_end ∷ rest) × K rest
@@ -49,7 +49,7 @@ Part b a.one ys K ts = (rest : List Token) × (ts ≡ t.number (pos 1) ∷ rest)
 Part b a.functions ys K ts =
     HasRoom b ys → (hs : List Head) × (bs : List Body) × (rest : List Token) × AreBodies b bs × (ts ≡ heads_then hs (bodies_then bs rest)) × K rest
 Part b a.bodies ys K ts = HasRoom b ys → (bs : List Body) × (rest : List Token) × AreBodies b bs × (ts ≡ bodies_then bs rest) × K rest
-Part b a.behind_head ys K ts =
+Part b a.after_head ys K ts =
     HasRoom b ys → (h : Head) → (hs : List Head) × (bs : List Body) × (rest : List Token) × AreBodies b bs × (head_then h ts ≡ heads_then hs (bodies_then bs rest)) × K rest
 Part b a.type ys K ts = (r : Bool) × (rest : List Token) × (ts ≡ type_then r rest) × K rest
 Part b a.params ys K ts = (ds : List Declaration) × (rest : List Token) × (ts ≡ params_then ds rest) × K rest
@@ -64,13 +64,13 @@ Part b a.otherwise ys K ts =
     HasRoom b (a.otherwise ∷ ys)
     → K ts ⊎ ((xs : Stmts) × (rest : List Token) × AreWritten xs × (deepest xs ≤ b.expressions) × (suc (blocks_in ys) + nested xs ≤ b.blocks - 1)
     × (ts ≡ t.word w.Else ∷ t.sign s.OpenBrace ∷ stmts_then xs (t.sign s.CloseBrace ∷ rest)) × K rest)
-Part b a.behind_reference ys K ts =
+Part b a.after_reference ys K ts =
     (n : ℕ) → (x : Stmt) × (rest : List Token) × IsWritten x × (deepest_in x ≤ b.expressions) × (nested_in x ≡ 0) × (reference n ∷ ts ≡ stmt_then x rest) × K rest
 Part b a.value ys K ts =
     HasDepth b ys
     → ((e : Expr) × (rest : List Token) × HasArities e × (expr_depth e ≤ b.expressions) × (ts ≡ expr_then e rest) × K rest)
     ⊎ ((f : Call) × (rest : List Token) × IsCall f × (ts ≡ call_then f rest) × K rest)
-Part b a.behind_return ys K ts =
+Part b a.after_return ys K ts =
     (e : Option Expr) × (rest : List Token) × IsWritten (c.return e) × (deepest_in (c.return e) ≤ b.expressions) × (t.word w.Return ∷ ts ≡ stmt_then (c.return e) rest) × K rest
 Part b a.cell_kind ys K ts = (r : Bool) × (rest : List Token) × (ts ≡ t.word (kind_word r) ∷ rest) × K rest
 Part b a.operand ys K ts =
@@ -93,7 +93,7 @@ abbrev pub Spells : Bounds → List Symbol → Rest → List Token → Type 0
 Spells b [] K ts = K ts
 Spells b (y ∷ ys) K ts = Part b y ys (Spells b ys K) ts
 
--- where the reaction takes a token, what its stack spells comes behind that token
+-- where the reaction takes a token, what its stack spells comes after that token
 abbrev pub Backs : Bounds → Symbol → List Symbol → Rest → List Token → Token → Reaction → Type 0
 Backs b y ys K ts x (a.take xs) = Spells b (xs ++ ys) K ts → Part b y ys (Spells b ys K) (x ∷ ts)
 Backs b y ys K ts x (a.open_block xs) = HasRoom b (xs ++ ys) → Spells b (xs ++ ys) K ts → Part b y ys (Spells b ys K) (x ∷ ts)

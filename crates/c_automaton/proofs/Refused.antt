@@ -17,7 +17,7 @@ use Rattle.c_automaton.proofs.Steps.{refused_always, one_way, IsWider, wider_aft
 
 -- ---- where the automaton stops
 
--- it takes the tokens before this one, behind which it comes to that
+-- it takes the tokens before this one, after which it comes to that
 pub record StopsAt (b : Bounds) (ys : List Symbol) (ls : List Lexeme) (n : Next) (at : ℕ) : Type 0 where
   pub index : ℕ
   pub inside : index < length (tokens_in ls)
@@ -87,7 +87,7 @@ reason b ys [] f h =
     subst (Reason b ys []) q.0 (record { stack = ys; taken = refl; opening = q.1 })
 reason b ys (x ∷ ls) f h = stepped b ys x ls (step b ys x.token) f refl (λ zs e. reason b zs ls f e) h
 
--- ---- texts that go on behind a token
+-- ---- texts that go on after a token
 
 -- where more is taken, so is what comes first
 pub record Parted (b : Bounds) (xs zs : List Token) (ys last : List Symbol) : Type 0 where
@@ -138,7 +138,7 @@ last_of : (ls : List Lexeme) (n : Next) (at : ℕ) (h : StopsAt language start l
 last_of ls n at h none = record {
   inside = h.inside;
   before = continues within_limits language (take h.index (tokens_in ls)) h.stack refl some_depth h.taken;
-  behind = none;
+  following = none;
 }
 
 -- ---- the three refusals
@@ -219,12 +219,12 @@ some_text depth_of limit fits ls n at h o =
 over_refused : (ls : List Lexeme) (n at : ℕ) (h : StopsAt language start ls (over n) at) → Exceeds (λ d. step d h.stack h.token) language n → IsRefusal ls (over_limit n)
 over_refused ls n at h (inl q) =
     let none : Continues within_blocks (take (suc h.index) (tokens_in ls)) → ⊥ = not_within blocks_of C_BLOCK_DEPTH within_blocks (λ d is. is) ls (over n) at h q.1 in
-    let behind : Continues within_limits (take (suc h.index) (tokens_in ls)) → ⊥ = not_within blocks_of C_BLOCK_DEPTH within_limits (λ d is. no_more blocks_of d is) ls (over n) at h q.1 in
-    (h.index, inl (q.0, record { last = last_of ls (over n) at h behind; some = some_text blocks_of C_BLOCK_DEPTH (λ k. fits_far k language.blocks) ls (over n) at h q.1; none = none }))
+    let following : Continues within_limits (take (suc h.index) (tokens_in ls)) → ⊥ = not_within blocks_of C_BLOCK_DEPTH within_limits (λ d is. no_more blocks_of d is) ls (over n) at h q.1 in
+    (h.index, inl (q.0, record { last = last_of ls (over n) at h following; some = some_text blocks_of C_BLOCK_DEPTH (λ k. fits_far k language.blocks) ls (over n) at h q.1; none = none }))
 over_refused ls n at h (inr q) =
     let none : Continues within_expressions (take (suc h.index) (tokens_in ls)) → ⊥ = not_within expressions_of C_EXPRESSION_DEPTH within_expressions (λ d is. is) ls (over n) at h q.1 in
-    let behind : Continues within_limits (take (suc h.index) (tokens_in ls)) → ⊥ = not_within expressions_of C_EXPRESSION_DEPTH within_limits (λ d is. no_more expressions_of d is) ls (over n) at h q.1 in
-    (h.index, inr (q.0, record { last = last_of ls (over n) at h behind; some = some_text expressions_of C_EXPRESSION_DEPTH (λ k. fits_far k language.expressions) ls (over n) at h q.1; none = none }))
+    let following : Continues within_limits (take (suc h.index) (tokens_in ls)) → ⊥ = not_within expressions_of C_EXPRESSION_DEPTH within_limits (λ d is. no_more expressions_of d is) ls (over n) at h q.1 in
+    (h.index, inr (q.0, record { last = last_of ls (over n) at h following; some = some_text expressions_of C_EXPRESSION_DEPTH (λ k. fits_far k language.expressions) ls (over n) at h q.1; none = none }))
 
 refused_as_told : (ls : List Lexeme) (f : Refusal) → Reason language start ls f → IsRefusal ls f
 refused_as_told ls (unexpected_at at) r = unexpected_refused ls at r

@@ -15,7 +15,7 @@ use Rattle.c_automaton.specs.Automaton.{Symbol, sign, one, stmts, otherwise, val
 use Rattle.c_automaton.proofs.After.{bind, after}
 use Rattle.c_automaton.proofs.Exprs.{le_true, some_depth, take_expr, as_value, as_returned, take_value_call, take_call}
 
--- ---- what comes behind a statement is no `else`
+-- ---- what comes after a statement is no `else`
 
 abbrev pub no_else : List Token → Bool
 no_else [] = false
@@ -70,11 +70,11 @@ put_begins b counts (cell.Reference p k) ys rest = refl
 whole_expr : (b : Bounds) (e : Expr) → expr_depth e ≤ b.expressions → expr_depth e + 0 ≤ suc (b.expressions - 1)
 whole_expr b e h = let some = some_depth e in omega (arith, h, some)
 
-semicolon_behind : (b : Bounds) (e : Expr) (ys : List Symbol) (rest : List Token) → HasArities e → expr_depth e ≤ b.expressions → after b (expr_then e (t.sign s.Semicolon ∷ rest)) (operand ∷ sign s.Semicolon ∷ ys) ≡ after b rest ys
-semicolon_behind b e ys rest is deep = take_expr b e (sign s.Semicolon ∷ ys) (t.sign s.Semicolon ∷ rest) is (whole_expr b e deep) refl
+semicolon_after : (b : Bounds) (e : Expr) (ys : List Symbol) (rest : List Token) → HasArities e → expr_depth e ≤ b.expressions → after b (expr_then e (t.sign s.Semicolon ∷ rest)) (operand ∷ sign s.Semicolon ∷ ys) ≡ after b rest ys
+semicolon_after b e ys rest is deep = take_expr b e (sign s.Semicolon ∷ ys) (t.sign s.Semicolon ∷ rest) is (whole_expr b e deep) refl
 
-paren_behind : (b : Bounds) (e : Expr) (ys : List Symbol) (rest : List Token) → HasArities e → expr_depth e ≤ b.expressions → after b (expr_then e (t.sign s.CloseParen ∷ rest)) (operand ∷ sign s.CloseParen ∷ ys) ≡ after b rest ys
-paren_behind b e ys rest is deep = take_expr b e (sign s.CloseParen ∷ ys) (t.sign s.CloseParen ∷ rest) is (whole_expr b e deep) refl
+paren_after : (b : Bounds) (e : Expr) (ys : List Symbol) (rest : List Token) → HasArities e → expr_depth e ≤ b.expressions → after b (expr_then e (t.sign s.CloseParen ∷ rest)) (operand ∷ sign s.CloseParen ∷ ys) ≡ after b rest ys
+paren_after b e ys rest is deep = take_expr b e (sign s.CloseParen ∷ ys) (t.sign s.CloseParen ∷ rest) is (whole_expr b e deep) refl
 
 max_left : (a b n : ℕ) → max a b ≤ n → a ≤ n
 max_left a b n h = omega (arith, h)
@@ -99,19 +99,19 @@ mutual
   take_stmt b (c.set v e) counts ys rest is deep wide ends =
       set_begins b counts v.reference v.number ys (expr_then e (t.sign s.Semicolon ∷ rest))
       ∙ as_value b e (sign s.Semicolon ∷ stmts counts ∷ ys) (t.sign s.Semicolon ∷ rest)
-      ∙ semicolon_behind b e (stmts counts ∷ ys) rest is deep
+      ∙ semicolon_after b e (stmts counts ∷ ys) rest is deep
   take_stmt b (c.set_call v f) counts ys rest is deep wide ends =
       set_begins b counts v.reference v.number ys (call_then f (t.sign s.Semicolon ∷ rest))
       ∙ take_value_call b f (sign s.Semicolon ∷ stmts counts ∷ ys) (t.sign s.Semicolon ∷ rest) is
   take_stmt b (c.call f) counts ys rest is deep wide ends = take_call b counts f ys rest is
   take_stmt b (c.put x e) counts ys rest is deep wide ends =
-      put_begins b counts x ys (expr_then e (t.sign s.Semicolon ∷ rest)) ∙ semicolon_behind b e (stmts counts ∷ ys) rest is deep
+      put_begins b counts x ys (expr_then e (t.sign s.Semicolon ∷ rest)) ∙ semicolon_after b e (stmts counts ∷ ys) rest is deep
   take_stmt b (c.when e xs) counts ys rest is deep wide ends =
       let block : List Token = stmts_then xs (t.sign s.CloseBrace ∷ rest) in
       let inner : List Symbol = stmts false ∷ otherwise ∷ stmts counts ∷ ys in
       ap (bind (after b (t.sign s.OpenParen ∷ expr_then e (t.sign s.CloseParen ∷ t.sign s.OpenBrace ∷ block))))
       (opens b (sign s.OpenParen ∷ operand ∷ sign s.CloseParen ∷ sign s.OpenBrace ∷ stmts false ∷ otherwise ∷ stmts counts ∷ []) ys (step b ys (t.word w.If)) (omega (arith, wide)))
-      ∙ paren_behind b e (sign s.OpenBrace ∷ inner) (t.sign s.OpenBrace ∷ block) is.0 (max_left (expr_depth e) (deepest xs) b.expressions deep)
+      ∙ paren_after b e (sign s.OpenBrace ∷ inner) (t.sign s.OpenBrace ∷ block) is.0 (max_left (expr_depth e) (deepest xs) b.expressions deep)
       ∙ take_stmts b xs false (otherwise ∷ stmts counts ∷ ys) rest is.1 (max_right (expr_depth e) (deepest xs) b.expressions deep) (omega (arith, wide))
       ∙ otherwise_ends b (stmts counts ∷ ys) rest ends
   take_stmt b (c.choose e xs zs) counts ys rest is deep wide ends =
@@ -122,7 +122,7 @@ mutual
       let around : ℕ = blocks_in (stmts counts ∷ ys) in
       ap (bind (after b (t.sign s.OpenParen ∷ expr_then e (t.sign s.CloseParen ∷ t.sign s.OpenBrace ∷ block))))
       (opens b (sign s.OpenParen ∷ operand ∷ sign s.CloseParen ∷ sign s.OpenBrace ∷ stmts false ∷ otherwise ∷ stmts counts ∷ []) ys (step b ys (t.word w.If)) (omega (arith, wide)))
-      ∙ paren_behind b e (sign s.OpenBrace ∷ inner) (t.sign s.OpenBrace ∷ block) is.0 (max_left (expr_depth e) (max (deepest xs) (deepest zs)) b.expressions deep)
+      ∙ paren_after b e (sign s.OpenBrace ∷ inner) (t.sign s.OpenBrace ∷ block) is.0 (max_left (expr_depth e) (max (deepest xs) (deepest zs)) b.expressions deep)
       ∙ take_stmts b xs false (otherwise ∷ stmts counts ∷ ys) (t.word w.Else ∷ t.sign s.OpenBrace ∷ other) is.1 (max_left (deepest xs) (deepest zs) b.expressions both) (deeper_left (nested xs) (nested zs) (b.blocks - 1) around wide)
       ∙ take_stmts b zs true (stmts counts ∷ ys) rest is.2 (max_right (deepest xs) (deepest zs) b.expressions both) (deeper_right (nested xs) (nested zs) (b.blocks - 1) around wide)
   take_stmt b (c.loop xs) counts ys rest is deep wide ends =
@@ -134,7 +134,7 @@ mutual
   take_stmt b c.continue counts ys rest is deep wide ends = refl
   take_stmt b (c.return None) counts ys rest is deep wide ends = refl
   take_stmt b (c.return (Some e)) counts ys rest is deep wide ends =
-      as_returned b e (stmts counts ∷ ys) (t.sign s.Semicolon ∷ rest) ∙ semicolon_behind b e (stmts counts ∷ ys) rest is deep
+      as_returned b e (stmts counts ∷ ys) (t.sign s.Semicolon ∷ rest) ∙ semicolon_after b e (stmts counts ∷ ys) rest is deep
 
   pub take_stmts : (b : Bounds) (xs : Stmts) (counts : Bool) (ys : List Symbol) (rest : List Token) → AreWritten xs → deepest xs ≤ b.expressions → nested xs + blocks_in (stmts counts ∷ ys) ≤ b.blocks - 1 → after b (stmts_then xs (t.sign s.CloseBrace ∷ rest)) (stmts counts ∷ ys) ≡ after b rest ys
   take_stmts b c.done counts ys rest is deep wide = refl

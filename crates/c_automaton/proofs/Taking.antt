@@ -17,7 +17,7 @@ use Rattle.c_syntax.specs.Grammar.{language}
 use Rattle.c_automaton.specs.Refusals.{Refusal, over_limit}
 use Rattle.c_automaton.specs.Automaton as a
 use Rattle.c_automaton.specs.Automaton.{Symbol, Verdict, refuse, react, may_end, blocks_in, parens_in, run}
-use Rattle.c_automaton.specs.Ahead.{Begins, refusal_at, begins_with, is_sign, is_word, begins_sign, begins_word, is_type, is_callee, is_prefix, functions_symbol, behind_head_of, behind_variable_of, if_rest, while_rest}
+use Rattle.c_automaton.specs.Ahead.{Begins, refusal_at, begins_with, is_sign, is_word, begins_sign, begins_word, is_type, is_callee, is_prefix, functions_symbol, after_head_of, after_variable_of, if_rest, while_rest}
 use Rattle.c_automaton.proofs.Same.{word_itself, sign_itself}
 
 abbrev refused : Refusal → Verdict
@@ -247,50 +247,50 @@ var_begins ys (l ∷ ls) e = var_alike ys l.token e l.at ls
 
 -- ---- functions
 
-head_alike : (all : Bool) (ys : List Symbol) (x : Token) → is_word w.Void x ≡ false → Alike (functions_symbol all ∷ ys) (a.type ∷ a.head_rest (behind_head_of all) ++ ys) x
+head_alike : (all : Bool) (ys : List Symbol) (x : Token) → is_word w.Void x ≡ false → Alike (functions_symbol all ∷ ys) (a.type ∷ a.head_rest (after_head_of all) ++ ys) x
 head_alike all ys (t.word w.Void) e at ls = absurd cc
 head_alike true ys x e at ls = refl
 head_alike false ys x e at ls = refl
 
-pub head_begins : (all : Bool) (ys : List Symbol) (l : Lexeme) (ls : List Lexeme) → is_word w.Void l.token ≡ false → run language (functions_symbol all ∷ ys) (l ∷ ls) ≡ run language (a.type ∷ a.head_rest (behind_head_of all) ++ ys) (l ∷ ls)
+pub head_begins : (all : Bool) (ys : List Symbol) (l : Lexeme) (ls : List Lexeme) → is_word w.Void l.token ≡ false → run language (functions_symbol all ∷ ys) (l ∷ ls) ≡ run language (a.type ∷ a.head_rest (after_head_of all) ++ ys) (l ∷ ls)
 head_begins all ys l ls e = head_alike all ys l.token e l.at ls
 
 pub void_taken : (all : Bool) (ts rest : List Lexeme) (ys : List Symbol) → Begins (t.word w.Void) ts rest
-    → run language (functions_symbol all ∷ ys) ts ≡ run language (a.head_rest (behind_head_of all) ++ ys) rest
+    → run language (functions_symbol all ∷ ys) ts ≡ run language (a.head_rest (after_head_of all) ++ ys) rest
 void_taken true ts rest ys h = rw h.is refl
 void_taken false ts rest ys h = rw h.is refl
 
-body_alike : (ys : List Symbol) (x : Token) → is_sign s.Semicolon x ≡ false → Alike (a.behind_head ∷ ys) (a.sign s.OpenBrace ∷ a.body ∷ a.bodies ∷ ys) x
+body_alike : (ys : List Symbol) (x : Token) → is_sign s.Semicolon x ≡ false → Alike (a.after_head ∷ ys) (a.sign s.OpenBrace ∷ a.body ∷ a.bodies ∷ ys) x
 body_alike ys (t.sign s.Semicolon) e at ls = absurd cc
 body_alike ys (t.sign s.OpenBrace) e at ls = refl
 body_alike ys x e at ls = refl
 
-pub body_begins : (ys : List Symbol) (ts : List Lexeme) → begins_sign s.Semicolon ts ≡ false → run language (a.behind_head ∷ ys) ts ≡ run language (a.sign s.OpenBrace ∷ a.body ∷ a.bodies ∷ ys) ts
+pub body_begins : (ys : List Symbol) (ts : List Lexeme) → begins_sign s.Semicolon ts ≡ false → run language (a.after_head ∷ ys) ts ≡ run language (a.sign s.OpenBrace ∷ a.body ∷ a.bodies ∷ ys) ts
 body_begins ys [] e = refl
 body_begins ys (l ∷ ls) e = body_alike ys l.token e l.at ls
 
 -- ---- statements
 
 pub variable_begins : (counts r : Bool) (n : ℕ) (ts rest : List Lexeme) (ys : List Symbol) → Begins (t.variable (record { reference = r; number = n })) ts rest
-    → run language (a.stmts counts ∷ ys) ts ≡ run language (behind_variable_of (record { reference = r; number = n }) ++ a.stmts counts ∷ ys) rest
+    → run language (a.stmts counts ∷ ys) ts ≡ run language (after_variable_of (record { reference = r; number = n }) ++ a.stmts counts ∷ ys) rest
 variable_begins counts true n ts rest ys h = rw h.is refl
 variable_begins counts false n ts rest ys h = rw h.is refl
 
-reference_alike : (ys : List Symbol) (x : Token) → is_sign s.Arrow x ≡ false → Alike (a.behind_reference ∷ ys) (a.sign s.Assign ∷ a.value ∷ a.sign s.Semicolon ∷ ys) x
+reference_alike : (ys : List Symbol) (x : Token) → is_sign s.Arrow x ≡ false → Alike (a.after_reference ∷ ys) (a.sign s.Assign ∷ a.value ∷ a.sign s.Semicolon ∷ ys) x
 reference_alike ys (t.sign s.Arrow) e at ls = absurd cc
 reference_alike ys (t.sign s.Assign) e at ls = refl
 reference_alike ys x e at ls = refl
 
 assigned_alike : (r : Bool) (n : ℕ) (ys : List Symbol) (ts : List Lexeme) → begins_sign s.Arrow ts ≡ false
-    → run language (behind_variable_of (record { reference = r; number = n }) ++ ys) ts ≡ run language (a.sign s.Assign ∷ a.value ∷ a.sign s.Semicolon ∷ ys) ts
+    → run language (after_variable_of (record { reference = r; number = n }) ++ ys) ts ≡ run language (a.sign s.Assign ∷ a.value ∷ a.sign s.Semicolon ∷ ys) ts
 assigned_alike true n ys [] e = refl
 assigned_alike true n ys (l ∷ ls) e = reference_alike ys l.token e l.at ls
 assigned_alike false n ys ts e = refl
 
-pub reference_assigned : (v : CVar) (ys : List Symbol) (ts : List Lexeme) → begins_sign s.Arrow ts ≡ false → run language (behind_variable_of v ++ ys) ts ≡ run language (a.sign s.Assign ∷ a.value ∷ a.sign s.Semicolon ∷ ys) ts
+pub reference_assigned : (v : CVar) (ys : List Symbol) (ts : List Lexeme) → begins_sign s.Arrow ts ≡ false → run language (after_variable_of v ++ ys) ts ≡ run language (a.sign s.Assign ∷ a.value ∷ a.sign s.Semicolon ∷ ys) ts
 reference_assigned v ys ts e = assigned_alike v.reference v.number ys ts e
 
-pub number_assigned : (v : CVar) (ys : List Symbol) (ts : List Lexeme) → v.reference ≡ false → run language (behind_variable_of v ++ ys) ts ≡ run language (a.sign s.Assign ∷ a.value ∷ a.sign s.Semicolon ∷ ys) ts
+pub number_assigned : (v : CVar) (ys : List Symbol) (ts : List Lexeme) → v.reference ≡ false → run language (after_variable_of v ++ ys) ts ≡ run language (a.sign s.Assign ∷ a.value ∷ a.sign s.Semicolon ∷ ys) ts
 number_assigned v ys ts e = rw e refl
 
 -- ---- single tokens
@@ -319,7 +319,7 @@ pub long_type : (ys : List Symbol) (ts : List Lexeme) → begins_word w.Ref ts �
 long_type ys [] e = refl
 long_type ys (l ∷ ls) e = long_alike ys l.token e l.at ls
 
-pub semicolon_functions : (ts rest : List Lexeme) (ys : List Symbol) → Begins (t.sign s.Semicolon) ts rest → run language (a.behind_head ∷ ys) ts ≡ run language (a.functions ∷ ys) rest
+pub semicolon_functions : (ts rest : List Lexeme) (ys : List Symbol) → Begins (t.sign s.Semicolon) ts rest → run language (a.after_head ∷ ys) ts ≡ run language (a.functions ∷ ys) rest
 semicolon_functions ts rest ys h = rw h.is refl
 
 pub block_ends : (counts : Bool) (ts rest : List Lexeme) (ys : List Symbol) → Begins (t.sign s.CloseBrace) ts rest → run language (a.stmts counts ∷ ys) ts ≡ run language ys rest
@@ -328,20 +328,20 @@ block_ends counts ts rest ys h = rw h.is refl
 pub else_begins : (ts rest : List Lexeme) (ys : List Symbol) → Begins (t.word w.Else) ts rest → run language (a.otherwise ∷ ys) ts ≡ run language (a.sign s.OpenBrace ∷ a.stmts true ∷ ys) rest
 else_begins ts rest ys h = rw h.is refl
 
-pub return_ends : (ts rest : List Lexeme) (ys : List Symbol) → Begins (t.sign s.Semicolon) ts rest → run language (a.behind_return ∷ ys) ts ≡ run language ys rest
+pub return_ends : (ts rest : List Lexeme) (ys : List Symbol) → Begins (t.sign s.Semicolon) ts rest → run language (a.after_return ∷ ys) ts ≡ run language ys rest
 return_ends ts rest ys h = rw h.is refl
 
-return_variable : (r : Bool) (n : ℕ) (ys : List Symbol) → Alike (a.behind_return ∷ ys) (a.operand ∷ a.sign s.Semicolon ∷ ys) (t.variable (record { reference = r; number = n }))
+return_variable : (r : Bool) (n : ℕ) (ys : List Symbol) → Alike (a.after_return ∷ ys) (a.operand ∷ a.sign s.Semicolon ∷ ys) (t.variable (record { reference = r; number = n }))
 return_variable true n ys at ls = refl
 return_variable false n ys at ls = refl
 
-return_alike : (ys : List Symbol) (x : Token) → is_sign s.Semicolon x ≡ false → Alike (a.behind_return ∷ ys) (a.operand ∷ a.sign s.Semicolon ∷ ys) x
+return_alike : (ys : List Symbol) (x : Token) → is_sign s.Semicolon x ≡ false → Alike (a.after_return ∷ ys) (a.operand ∷ a.sign s.Semicolon ∷ ys) x
 return_alike ys (t.sign s.Semicolon) e at ls = absurd cc
 return_alike ys (t.sign s.OpenParen) e at ls = refl
 return_alike ys (t.word w.Null) e at ls = refl
 return_alike ys (t.variable v) e at ls = return_variable v.reference v.number ys at ls
 return_alike ys x e at ls = refl
 
-pub return_value : (ys : List Symbol) (ts : List Lexeme) → begins_sign s.Semicolon ts ≡ false → run language (a.behind_return ∷ ys) ts ≡ run language (a.operand ∷ a.sign s.Semicolon ∷ ys) ts
+pub return_value : (ys : List Symbol) (ts : List Lexeme) → begins_sign s.Semicolon ts ≡ false → run language (a.after_return ∷ ys) ts ≡ run language (a.operand ∷ a.sign s.Semicolon ∷ ys) ts
 return_value ys [] e = refl
 return_value ys (l ∷ ls) e = return_alike ys l.token e l.at ls

@@ -13,7 +13,7 @@ use Rattle.c_syntax.specs.C as c
 use Rattle.c_syntax.specs.C.{Stmts}
 use Rattle.c_syntax.specs.Grammar.{Bounds, AreStmts, AreBodies, IsUnit}
 use Rattle.c_syntax.specs.Spelling.{type_then, result_then, more_params_then, params_then, heads_then, vars_then, stmts_then, bodies_then, spelling}
-use Rattle.c_automaton.specs.Automaton.{Symbol, sign, functions, bodies, behind_head, params, more_params, body, stmts, to, may_end, start}
+use Rattle.c_automaton.specs.Automaton.{Symbol, sign, functions, bodies, after_head, params, more_params, body, stmts, to, may_end, start}
 use Rattle.c_automaton.proofs.After.{after}
 use Rattle.c_automaton.proofs.Stmts.{take_stmts}
 
@@ -45,7 +45,7 @@ take_vars b (d ∷ ds) ys rest = var_taken b d.reference d.variable ys (vars_the
 
 -- ---- heads
 
-head_of_functions : (b : Bounds) (r : CResult) (f : CName) (ys : List Symbol) (rest : List Token) → after b (result_then r (t.name f ∷ t.sign s.OpenParen ∷ rest)) (functions ∷ ys) ≡ after b rest (params ∷ behind_head ∷ ys)
+head_of_functions : (b : Bounds) (r : CResult) (f : CName) (ys : List Symbol) (rest : List Token) → after b (result_then r (t.name f ∷ t.sign s.OpenParen ∷ rest)) (functions ∷ ys) ≡ after b rest (params ∷ after_head ∷ ys)
 head_of_functions b result.Nothing f ys rest = refl
 head_of_functions b result.Number f ys rest = refl
 head_of_functions b result.Reference f ys rest = refl
@@ -59,7 +59,7 @@ take_heads : (b : Bounds) (hs : List Head) (ys : List Symbol) (rest : List Token
 take_heads b [] ys rest = refl
 take_heads b (h ∷ hs) ys rest =
     head_of_functions b h.result h.name ys (params_then h.params (t.sign s.Semicolon ∷ heads_then hs rest))
-    ∙ take_params b h.params (behind_head ∷ ys) (t.sign s.Semicolon ∷ heads_then hs rest)
+    ∙ take_params b h.params (after_head ∷ ys) (t.sign s.Semicolon ∷ heads_then hs rest)
     ∙ take_heads b hs ys rest
 
 -- ---- bodies
@@ -112,7 +112,7 @@ functions_taken b hs (x ∷ xs) are =
       bodies ∷ [],
       take_heads b hs [] (bodies_then (x ∷ xs) [])
           ∙ head_of_functions b x.head.result x.head.name [] (params_then x.head.params (t.sign s.OpenBrace ∷ block))
-          ∙ take_params b x.head.params (behind_head ∷ []) (t.sign s.OpenBrace ∷ block)
+          ∙ take_params b x.head.params (after_head ∷ []) (t.sign s.OpenBrace ∷ block)
           ∙ take_body b x (bodies_then xs []) are.0
           ∙ take_bodies b xs [] are.1,
       refl,

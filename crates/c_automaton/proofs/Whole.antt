@@ -43,17 +43,17 @@ has_part b a.natural ys K ts some k = (t.number (pos 0) ∷ ts, (0, ts, refl, k)
 has_part b a.one ys K ts some k = (t.number (pos 1) ∷ ts, (ts, refl, k))
 has_part b a.functions ys K ts some k = (ts, λ p. ([], [], ts, tt, refl, k))
 has_part b a.bodies ys K ts some k = (ts, λ p. ([], ts, tt, refl, k))
-has_part b a.behind_head ys K ts some k = (t.sign s.Semicolon ∷ ts, λ p h. (h ∷ [], [], ts, tt, refl, k))
+has_part b a.after_head ys K ts some k = (t.sign s.Semicolon ∷ ts, λ p h. (h ∷ [], [], ts, tt, refl, k))
 has_part b a.type ys K ts some k = (t.word w.Ref ∷ ts, (true, ts, refl, k))
 has_part b a.params ys K ts some k = (t.word w.Void ∷ t.sign s.CloseParen ∷ ts, ([], ts, refl, k))
 has_part b a.more_params ys K ts some k = (t.sign s.CloseParen ∷ ts, ([], ts, refl, k))
 has_part b a.body ys K ts some k = (t.sign s.CloseBrace ∷ ts, λ p. ([], c.done, ts, tt, omega arith, omega (arith, p), refl, k))
 has_part b (a.stmts n) ys K ts some k = (t.sign s.CloseBrace ∷ ts, λ p. (c.done, ts, tt, omega arith, omega (arith, p), refl, k))
 has_part b a.otherwise ys K ts some k = (ts, λ p. inl k)
-has_part b a.behind_reference ys K ts some k =
+has_part b a.after_reference ys K ts some k =
     (t.sign s.Assign ∷ t.number (pos 0) ∷ t.sign s.Semicolon ∷ ts, λ n. (c.set (record { reference = true; number = n }) (c.number (pos 0)), ts, tt, some, refl, refl, k))
 has_part b a.value ys K ts some k = (t.number (pos 0) ∷ ts, λ p. inl (c.number (pos 0), ts, tt, some, refl, k))
-has_part b a.behind_return ys K ts some k = (t.sign s.Semicolon ∷ ts, (None, ts, tt, omega arith, refl, k))
+has_part b a.after_return ys K ts some k = (t.sign s.Semicolon ∷ ts, (None, ts, tt, omega arith, refl, k))
 has_part b a.cell_kind ys K ts some k = (t.word w.Numbers ∷ ts, (false, ts, refl, k))
 has_part b a.operand ys K ts some k = (t.number (pos 0) ∷ ts, λ p. (c.number (pos 0), ts, tt, omega (arith, p), refl, k))
 has_part b a.operand_end ys K ts some k = (ts, λ n. (c.variable (record { reference = true; number = n }), ts, tt, refl, refl, k))
@@ -68,7 +68,7 @@ has_part b (a.args n) ys K ts some k = (t.sign s.CloseParen ∷ ts, ([], ts, non
 has_part b (a.more_args n) ys K ts some k = (t.sign s.CloseParen ∷ ts, ([], ts, none_stands n, refl, k))
 has_part b (a.arg n) ys K ts some k = (t.word w.Null ∷ ts, (c.null, ts, null_stands n, refl, k))
 
--- nothing comes behind
+-- nothing comes after
 abbrev pub IsEnd : Rest
 IsEnd ts = ts ≡ []
 

@@ -10,7 +10,7 @@ use Rattle.c_syntax.specs.Tokens as t
 use Rattle.c_syntax.specs.Tokens.{Token}
 use Rattle.c_syntax.specs.Text.{Lexeme}
 use Rattle.c_automaton.specs.Refusals.{Refusal, unexpected_at, cut_short}
-use Rattle.c_automaton.specs.Automaton.{Symbol, sign, functions, bodies, behind_head, body, stmts, otherwise, behind_reference, value, operand, one, word_number, sign_number}
+use Rattle.c_automaton.specs.Automaton.{Symbol, sign, functions, bodies, after_head, body, stmts, otherwise, after_reference, value, operand, one, word_number, sign_number}
 
 -- this token comes, and then those
 pub record Begins (token : Token) (ts rest : List Lexeme) : Type 0 where
@@ -57,21 +57,21 @@ is_prefix _ = false
 
 -- ---- what some symbols come to
 
--- all functions, or those behind a body
+-- all functions, or those after a body
 abbrev pub functions_symbol : Bool → Symbol
 functions_symbol true = functions
 functions_symbol false = bodies
 
--- what comes behind the head of one
-abbrev pub behind_head_of : Bool → List Symbol
-behind_head_of true = behind_head ∷ []
-behind_head_of false = sign OpenBrace ∷ body ∷ bodies ∷ []
+-- what comes after the head of one
+abbrev pub after_head_of : Bool → List Symbol
+after_head_of true = after_head ∷ []
+after_head_of false = sign OpenBrace ∷ body ∷ bodies ∷ []
 
--- behind the variable that begins a statement
-abbrev pub behind_variable_of : CVar → List Symbol
-behind_variable_of v = if v.reference then behind_reference ∷ [] else sign Assign ∷ value ∷ sign Semicolon ∷ []
+-- after the variable that begins a statement
+abbrev pub after_variable_of : CVar → List Symbol
+after_variable_of v = if v.reference then after_reference ∷ [] else sign Assign ∷ value ∷ sign Semicolon ∷ []
 
--- behind `if` and `while`
+-- after `if` and `while`
 abbrev pub if_rest : List Symbol
 if_rest = sign OpenParen ∷ operand ∷ sign CloseParen ∷ sign OpenBrace ∷ stmts false ∷ otherwise ∷ []
 

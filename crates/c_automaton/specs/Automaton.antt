@@ -58,28 +58,28 @@ pub data Symbol : Type 0 where
   -- a number that isn't negative, and the number 1
   natural : Symbol
   one : Symbol
-  -- all functions, and those behind a body
+  -- all functions, and those after a body
   functions : Symbol
   bodies : Symbol
-  behind_head : Symbol
+  after_head : Symbol
   type : Symbol
   params : Symbol
   more_params : Symbol
-  -- behind the opening brace of a body
+  -- after the opening brace of a body
   body : Symbol
-  -- Statements, and the brace behind them. The block counts where it isn't a body, nor the first of an `if`, which `otherwise` counts.
+  -- Statements, and the brace after them. The block counts where it isn't a body, nor the first of an `if`, which `otherwise` counts.
   stmts : Bool → Symbol
   otherwise : Symbol
-  -- behind a reference that begins a statement, behind `=`, behind `return`
-  behind_reference : Symbol
+  -- after a reference that begins a statement, after `=`, after `return`
+  after_reference : Symbol
   value : Symbol
-  behind_return : Symbol
+  after_return : Symbol
   -- `n` or `r`
   cell_kind : Symbol
   operand : Symbol
-  -- behind a reference that is an operand
+  -- after a reference that is an operand
   operand_end : Symbol
-  -- behind an opening parenthesis, behind the first operand in it, and before the closing one
+  -- after an opening parenthesis, after the first operand in it, and before the closing one
   inside : Symbol
   operation : Symbol
   closing : Symbol
@@ -113,13 +113,13 @@ pub data Reaction : Type 0 where
   skip : Reaction
   refuse : Reaction
 
--- these come behind what was taken
-abbrev pub with_behind : Reaction → List Symbol → Reaction
-with_behind (take xs) ys = take (xs ++ ys)
-with_behind (open_block xs) ys = open_block (xs ++ ys)
-with_behind (open_paren xs) ys = open_paren (xs ++ ys)
-with_behind skip ys = skip
-with_behind refuse ys = refuse
+-- these come after what was taken
+abbrev pub with_after : Reaction → List Symbol → Reaction
+with_after (take xs) ys = take (xs ++ ys)
+with_after (open_block xs) ys = open_block (xs ++ ys)
+with_after (open_paren xs) ys = open_paren (xs ++ ys)
+with_after skip ys = skip
+with_after refuse ys = refuse
 
 abbrev pub taken_if : Bool → Reaction
 taken_if b = if b then take [] else refuse
@@ -128,7 +128,7 @@ abbrev pub is_string_taker : CPrim → Bool
 is_string_taker prim.Call = true
 is_string_taker _ = false
 
--- `-> n [ 0 ]`, behind the arrow
+-- `-> n [ 0 ]`, after the arrow
 abbrev pub cell_rest : List Symbol → List Symbol
 cell_rest ys = cell_kind ∷ sign s.OpenBracket ∷ natural ∷ sign s.CloseBracket ∷ ys
 
@@ -142,7 +142,7 @@ react_operand _ = refuse
 abbrev pub react_inside : Token → Reaction
 react_inside (t.operator op.Subtract) = take (operand ∷ closing ∷ [])
 react_inside (t.operator op.Not) = take (operand ∷ closing ∷ [])
-react_inside x = with_behind (react_operand x) (operation ∷ [])
+react_inside x = with_after (react_operand x) (operation ∷ [])
 
 abbrev pub react_operation : Token → Reaction
 react_operation (t.operator o) = if (row_of o).arity == 2 then take (operand ∷ closing ∷ []) else refuse
@@ -161,7 +161,7 @@ react_arg b _ = refuse
 
 abbrev pub react_args : Bool → Token → Reaction
 react_args b (t.sign s.CloseParen) = take []
-react_args b x = with_behind (react_arg b x) (more_args b ∷ [])
+react_args b x = with_after (react_arg b x) (more_args b ∷ [])
 
 abbrev pub react_more_args : Bool → Token → Reaction
 react_more_args b (t.sign s.CloseParen) = take []
@@ -175,7 +175,7 @@ react_value x = react_operand x
 
 abbrev pub react_return : Token → Reaction
 react_return (t.sign s.Semicolon) = take []
-react_return x = with_behind (react_operand x) (sign s.Semicolon ∷ [])
+react_return x = with_after (react_operand x) (sign s.Semicolon ∷ [])
 
 abbrev pub react_reference : Token → Reaction
 react_reference (t.sign s.Arrow) = take (cell_rest (sign s.Assign ∷ operand ∷ sign s.Semicolon ∷ []))
@@ -186,14 +186,14 @@ abbrev pub react_otherwise : Token → Reaction
 react_otherwise (t.word w.Else) = take (sign s.OpenBrace ∷ stmts true ∷ [])
 react_otherwise _ = skip
 
--- the symbols of these statements come behind
+-- the symbols of these statements come after
 abbrev pub react_stmts : Bool → Token → Reaction
 react_stmts b (t.sign s.CloseBrace) = take []
 react_stmts b (t.variable v) =
-    if v.reference then take (behind_reference ∷ stmts b ∷ []) else take (sign s.Assign ∷ value ∷ sign s.Semicolon ∷ stmts b ∷ [])
+    if v.reference then take (after_reference ∷ stmts b ∷ []) else take (sign s.Assign ∷ value ∷ sign s.Semicolon ∷ stmts b ∷ [])
 react_stmts b (t.name f) = take (sign s.OpenParen ∷ args false ∷ sign s.Semicolon ∷ stmts b ∷ [])
 react_stmts b (t.primitive p) = take (sign s.OpenParen ∷ args (is_string_taker p) ∷ sign s.Semicolon ∷ stmts b ∷ [])
-react_stmts b (t.word w.Return) = take (behind_return ∷ stmts b ∷ [])
+react_stmts b (t.word w.Return) = take (after_return ∷ stmts b ∷ [])
 react_stmts b (t.word w.Break) = take (sign s.Semicolon ∷ stmts b ∷ [])
 react_stmts b (t.word w.Continue) = take (sign s.Semicolon ∷ stmts b ∷ [])
 react_stmts b (t.word w.If) =
@@ -207,7 +207,7 @@ react_type ys other (t.word w.Ref) = take ys
 react_type ys other (t.word w.Long) = take (word w.Long ∷ ys)
 react_type ys other _ = other
 
--- a head behind its result
+-- a head after its result
 abbrev pub head_rest : List Symbol → List Symbol
 head_rest ys = any_name ∷ sign s.OpenParen ∷ params ∷ ys
 
@@ -215,10 +215,10 @@ abbrev pub react_head : List Symbol → Token → Reaction
 react_head ys (t.word w.Void) = take (head_rest ys)
 react_head ys x = react_type (head_rest ys) refuse x
 
-abbrev pub react_behind_head : Token → Reaction
-react_behind_head (t.sign s.Semicolon) = take (functions ∷ [])
-react_behind_head (t.sign s.OpenBrace) = take (body ∷ bodies ∷ [])
-react_behind_head _ = refuse
+abbrev pub react_after_head : Token → Reaction
+react_after_head (t.sign s.Semicolon) = take (functions ∷ [])
+react_after_head (t.sign s.OpenBrace) = take (body ∷ bodies ∷ [])
+react_after_head _ = refuse
 
 abbrev pub react_params : Token → Reaction
 react_params (t.word w.Void) = take (sign s.CloseParen ∷ [])
@@ -242,18 +242,18 @@ react any_variable (t.variable v) = take []
 react any_name (t.name f) = take []
 react natural (t.number (pos k)) = take []
 react one (t.number (pos k)) = taken_if (k == 1)
-react functions x = react_head (behind_head ∷ []) x
+react functions x = react_head (after_head ∷ []) x
 react bodies x = react_head (sign s.OpenBrace ∷ body ∷ bodies ∷ []) x
-react behind_head x = react_behind_head x
+react after_head x = react_after_head x
 react type x = react_type [] refuse x
 react params x = react_params x
 react more_params x = react_more_params x
 react body x = react_body x
 react (stmts b) x = react_stmts b x
 react otherwise x = react_otherwise x
-react behind_reference x = react_reference x
+react after_reference x = react_reference x
 react value x = react_value x
-react behind_return x = react_return x
+react after_return x = react_return x
 react cell_kind (t.word w.Numbers) = take []
 react cell_kind (t.word w.References) = take []
 react operand x = react_operand x

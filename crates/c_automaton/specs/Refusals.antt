@@ -11,7 +11,7 @@ pub data Refusal : Type 0 where
   cut_short : Refusal
   over_limit : ℕ → Refusal
 
--- the token behind which no program within the limits goes on exceeds this limit
+-- the token after which no program within the limits goes on exceeds this limit
 abbrev pub ExceedsAt : ℕ → List Token → ℕ → Type 0
 ExceedsAt n ts i =
     ((n ≡ C_BLOCK_DEPTH) × IsOverLimitAt within_blocks ts i)

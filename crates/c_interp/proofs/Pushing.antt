@@ -15,31 +15,31 @@ use Rattle.c_interp.specs.declared.frames.Frames.{Frames}
 use Rattle.c_interp.specs.Calling.{vars_of, AreSame, HasPushed, AreGiven}
 use Rattle.c_interp.proofs.Setting.{vars_are, made_drop, made_one}
 
-abbrev pub behind : List model.Value → Result (List model.Value) ℕ → Result (List model.Value) ℕ
-behind zs (Err r) = Err r
-behind zs (Ok ys) = Ok (zs ++ ys)
+abbrev pub following : List model.Value → Result (List model.Value) ℕ → Result (List model.Value) ℕ
+following zs (Err r) = Err r
+following zs (Ok ys) = Ok (zs ++ ys)
 
 -- so many values were pushed, and these arguments are left
 pub record Pushing (all left : List Arg) (count : ℕ) (old new : Frames) : Type 0 where
   pub values : List Value
   pub pushed : HasPushed old new values
   pub many : length values ≡ count
-  pub are : (ts : Things) → AreMadeSlots ts old.values.items → arg_values all (vars_of old) ≡ behind (map value_view values) (arg_values left (vars_of old))
+  pub are : (ts : Things) → AreMadeSlots ts old.values.items → arg_values all (vars_of old) ≡ following (map value_view values) (arg_values left (vars_of old))
 
-behind_none : (r : Result (List model.Value) ℕ) → r ≡ behind [] r
-behind_none (Ok ys) = refl
-behind_none (Err r) = refl
+after_none : (r : Result (List model.Value) ℕ) → r ≡ following [] r
+after_none (Ok ys) = refl
+after_none (Err r) = refl
 
-behind_one : (zs : List model.Value) (z : model.Value) (r : Result (List model.Value) ℕ) → behind zs (Ok z >>= (λ a. r >>= (λ rest. Ok (a ∷ rest)))) ≡ behind (zs ++ z ∷ []) r
-behind_one zs z (Ok ys) = ap (λ l. Ok l) (sym (append_assoc zs (z ∷ []) ys))
-behind_one zs z (Err r) = refl
+after_one : (zs : List model.Value) (z : model.Value) (r : Result (List model.Value) ℕ) → following zs (Ok z >>= (λ a. r >>= (λ rest. Ok (a ∷ rest)))) ≡ following (zs ++ z ∷ []) r
+after_one zs z (Ok ys) = ap (λ l. Ok l) (sym (append_assoc zs (z ∷ []) ys))
+after_one zs z (Err r) = refl
 
 pub none_pushed : (all : List Arg) (old : Frames) → Pushing all all 0 old old
 none_pushed all old = record {
   values = [];
   pushed = record { same = record { base = refl; func = refl; glue = refl; depth = refl }; items = sym (append-nil old.values.items); made = λ ts m. m; room = omega arith };
   many = refl;
-  are = λ ts m. behind_none (arg_values all (vars_of old));
+  are = λ ts m. after_none (arg_values all (vars_of old));
 }
 
 front : {A : Type 0} (xs ys : List A) (n : ℕ) → n ≡ length xs → take n (xs ++ ys) ≡ xs
@@ -91,24 +91,24 @@ module _ (all : List Arg) (args : List CArg) (i : ℕ) (item : CArg) (old now : 
       many = length-append h.values (a ∷ []) ∙ ap (λ k. k + 1) h.many;
       are = λ ts m.
           let shown : arg_value (arg_of item) (vars_of old) ≡ Ok (value_view a) = (ok_value ts a _ (subst (λ x. IsValue ts x (arg_value (arg_of item) (vars_of old))) ok (value_is ts m))).0 in
-          h.are ts m ∙ ap (λ xs. behind (map value_view h.values) (arg_values xs (vars_of old))) cut
-          ∙ ap (λ x. behind (map value_view h.values) (x >>= (λ b. arg_values (map arg_of (drop (i + 1) args)) (vars_of old) >>= (λ rest. Ok (b ∷ rest))))) shown
-          ∙ behind_one (map value_view h.values) (value_view a) (arg_values (map arg_of (drop (i + 1) args)) (vars_of old))
-          ∙ ap (λ zs. behind zs (arg_values (map arg_of (drop (i + 1) args)) (vars_of old))) (sym (map-append value_view h.values (a ∷ [])));
+          h.are ts m ∙ ap (λ xs. following (map value_view h.values) (arg_values xs (vars_of old))) cut
+          ∙ ap (λ x. following (map value_view h.values) (x >>= (λ b. arg_values (map arg_of (drop (i + 1) args)) (vars_of old) >>= (λ rest. Ok (b ∷ rest))))) shown
+          ∙ after_one (map value_view h.values) (value_view a) (arg_values (map arg_of (drop (i + 1) args)) (vars_of old))
+          ∙ ap (λ zs. following zs (arg_values (map arg_of (drop (i + 1) args)) (vars_of old))) (sym (map-append value_view h.values (a ∷ [])));
     }
 
     pub no_more : (q : ℕ) → r ≡ Err q → (ts : Things) → AreMadeSlots ts old.values.items → arg_values all (vars_of old) ≡ Err q
     no_more q err ts m =
         let shown : arg_value (arg_of item) (vars_of old) ≡ Err q = err_value ts q _ (subst (λ x. IsValue ts x (arg_value (arg_of item) (vars_of old))) err (value_is ts m)) in
-        h.are ts m ∙ ap (λ xs. behind (map value_view h.values) (arg_values xs (vars_of old))) cut
-        ∙ ap (λ x. behind (map value_view h.values) (x >>= (λ b. arg_values (map arg_of (drop (i + 1) args)) (vars_of old) >>= (λ rest. Ok (b ∷ rest))))) shown
+        h.are ts m ∙ ap (λ xs. following (map value_view h.values) (arg_values xs (vars_of old))) cut
+        ∙ ap (λ x. following (map value_view h.values) (x >>= (λ b. arg_values (map arg_of (drop (i + 1) args)) (vars_of old) >>= (λ rest. Ok (b ∷ rest))))) shown
 
 pub all_pushed : (all left : List Arg) (n : ℕ) (old new : Frames) → Pushing all left n old new → left ≡ [] → n ≡ length all → AreGiven all old new
 all_pushed all left n old new h none many = record {
   values = h.values;
   pushed = h.pushed;
   count = h.many ∙ many;
-  are = λ ts m. h.are ts m ∙ ap (λ xs. behind (map value_view h.values) (arg_values xs (vars_of old))) none ∙ ap (λ l. Ok l) (append-nil (map value_view h.values));
+  are = λ ts m. h.are ts m ∙ ap (λ xs. following (map value_view h.values) (arg_values xs (vars_of old))) none ∙ ap (λ l. Ok l) (append-nil (map value_view h.values));
 }
 
 -- what values and variables are depends on no world

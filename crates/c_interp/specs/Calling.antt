@@ -25,7 +25,7 @@ pub record AreSame (old new : Frames) : Type 0 where
   pub glue : new.is_glue ≡ old.is_glue
   pub depth : new.depth ≡ old.depth
 
--- values stand behind those of the running frame
+-- values stand after those of the running frame
 pub record HasPushed (old new : Frames) (values : List Value) : Type 0 where
   pub same : AreSame old new
   pub items : new.values.items ≡ old.values.items ++ map Some values

@@ -31,7 +31,7 @@ fn can_call(glue: bool, func: &CFunc, args: &[CArg], is_glue: bool) -> bool
     func.params.len() == args.len() && !(glue && is_glue)
 }
 
-/// The values of arguments behind those of the running frame.
+/// The values of arguments after those of the running frame.
 fn push_args(args: &[CArg], frames: &mut Frames) -> Result<(), u8>
     requires top { frames.old.base ≤ length frames.old.values.items }
     requires room { length frames.old.values.items + length args.now ≤ vec_capacity
@@ -62,7 +62,7 @@ fn depth_in(glue: bool, depth: u32, most: u32) -> Option<u32>
     }
 }
 
-/// Enters a function, the values of whose arguments stand behind those of the running frame, which end there.
+/// Enters a function, the values of whose arguments stand after those of the running frame, which end there.
 fn enter<'a>(
     rules: &Rules<'a>,
     n: u32,

@@ -31,7 +31,7 @@ pub struct Found<'a> {
     pub first: u32,
 }
 
-/// The numbers of the first statements of functions, and the number behind their last statement.
+/// The numbers of the first statements of functions, and the number after their last statement.
 #[derive(Drop)]
 pub struct Numbers {
     pub firsts: Vec<u32>,

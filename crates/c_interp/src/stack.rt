@@ -120,7 +120,7 @@ pub fn leave<'a>(
     Some(CStop::Stopped(Stop::Done))
 }
 
-/// Behind the loop that is under way. `count` is how many statements there are.
+/// Following the loop that is under way. `count` is how many statements there are.
 pub fn break_to(count: u32, tasks: &mut Vec<Task>) -> Option<CStop>
     ensures comes { (f : Values) (w : model.World) →
         IsPlain result tasks.new.items f w (m.break_to count (tasks_of tasks.old.items)

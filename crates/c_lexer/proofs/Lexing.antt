@@ -2,7 +2,7 @@
 use Rattle.std.proofs.Common.{◌≡◌, ℕ, ◌+◌, ◌-◌, List, [], ◌∷◌, ◌++◌, Some, None, length, take, arith, refl, sym, ap, subst, ◌∙◌, append_assoc}
 use Rattle.std.proofs.lemmas.List.{map-append, length-append, take_at, append-nil}
 use Rattle.c_syntax.specs.Tokens.{Token}
-use Rattle.c_syntax.specs.Text.{before_mark, behind, cut_at, mark, Lexeme, Piece, piece, past_run, is_blank, IsAt, AreTokensOf, AreFirst}
+use Rattle.c_syntax.specs.Text.{before_mark, following, cut_at, mark, Lexeme, Piece, piece, past_run, is_blank, IsAt, AreTokensOf, AreFirst}
 use Rattle.c_lexer.specs.declared.token.Lexeme.{Lexeme as CodeLexeme}
 use Rattle.c_syntax.specs.Reading.{tokens_in}
 use Rattle.c_lexer.specs.View.{lexeme_of, lexemes_of, tokens_from}
@@ -20,12 +20,12 @@ are_next total bs (l ∷ ls) h = h
 pub next_step : (total : ℕ) (bytes after : List ℕ) (token : Token) (l : Lexeme) (ls : List Lexeme) → IsPiece bytes token after → l.token ≡ token → l.at + length bytes ≡ total
     → AreNext total (past_run is_blank after) ls → AreNext total bytes (l ∷ ls)
 next_step total bytes after token l ls f is at rest =
-    (f.byte, f.rest, f.begins, (is ∙ f.is, ap (λ x. l.at + length x) (sym f.begins) ∙ at), subst (λ x. AreTokensOf total x ls) f.behind (are_next total after ls rest))
+    (f.byte, f.rest, f.begins, (is ∙ f.is, ap (λ x. l.at + length x) (sym f.begins) ∙ at), subst (λ x. AreTokensOf total x ls) f.following (are_next total after ls rest))
 
 pub first_step : (p : ℕ → List ℕ → Piece) (ps : List (ℕ → List ℕ → Piece)) (total : ℕ) (bytes after : List ℕ) (token : Token) (l : Lexeme) (ls : List Lexeme) → IsFirst p bytes token after → l.token ≡ token → l.at + length bytes ≡ total
     → AreFirst ps total after ls → AreFirst (p ∷ ps) total bytes (l ∷ ls)
 first_step p ps total bytes after token l ls f is at rest =
-    subst (λ x. AreFirst (p ∷ ps) total x (l ∷ ls)) (sym f.begins) ((is ∙ f.is, ap (λ x. l.at + length x) (sym f.begins) ∙ at), subst (λ x. AreFirst ps total x ls) f.behind rest)
+    subst (λ x. AreFirst (p ∷ ps) total x (l ∷ ls)) (sym f.begins) ((is ∙ f.is, ap (λ x. l.at + length x) (sym f.begins) ∙ at), subst (λ x. AreFirst ps total x ls) f.following rest)
 
 -- one more in the code's list
 pub one_more : (all before : List CodeLexeme) (l : CodeLexeme) (ls : List Lexeme) → all ≡ before ++ l ∷ [] → lexemes_of all ++ ls ≡ lexemes_of before ++ lexeme_of l ∷ ls
@@ -48,19 +48,19 @@ pub record Cuts (bytes rest : List ℕ) : Type 0 where
 pub cut_start : (bytes : List ℕ) → Cuts bytes bytes
 cut_start bytes = record { front = []; whole = refl; same = refl }
 
-pub cut_more : (bytes rest after : List ℕ) (b : ℕ) → Cuts bytes rest → rest ≡ b ∷ after → behind mark rest ≡ None → Cuts bytes after
+pub cut_more : (bytes rest after : List ℕ) (b : ℕ) → Cuts bytes rest → rest ≡ b ∷ after → following mark rest ≡ None → Cuts bytes after
 cut_more bytes rest after b h is none =
-    let here : before_mark (b ∷ after) ≡ b ∷ before_mark after = ap (λ x. cut_at x (b ∷ before_mark after)) (ap (behind mark) (sym is) ∙ none) in
+    let here : before_mark (b ∷ after) ≡ b ∷ before_mark after = ap (λ x. cut_at x (b ∷ before_mark after)) (ap (following mark) (sym is) ∙ none) in
     record {
       front = h.front ++ b ∷ [];
       whole = h.whole ∙ ap (λ x. h.front ++ x) is ∙ sym (append_assoc h.front (b ∷ []) after);
       same = h.same ∙ ap (λ x. h.front ++ x) (ap before_mark is ∙ here) ∙ sym (append_assoc h.front (b ∷ []) (before_mark after));
     }
 
-pub cut_here : (bytes rest after behind_mark : List ℕ) (b : ℕ) → Cuts bytes rest → rest ≡ b ∷ after → behind mark rest ≡ Some behind_mark → take (length bytes - length rest) bytes ≡ before_mark bytes
-cut_here bytes rest after behind_mark b h is some =
+pub cut_here : (bytes rest after after_mark : List ℕ) (b : ℕ) → Cuts bytes rest → rest ≡ b ∷ after → following mark rest ≡ Some after_mark → take (length bytes - length rest) bytes ≡ before_mark bytes
+cut_here bytes rest after after_mark b h is some =
     let size : length bytes ≡ length h.front + length rest = ap length h.whole ∙ length-append h.front rest in
-    let none : before_mark rest ≡ [] = ap before_mark is ∙ ap (λ x. cut_at x (b ∷ before_mark after)) (ap (behind mark) (sym is) ∙ some) in
+    let none : before_mark rest ≡ [] = ap before_mark is ∙ ap (λ x. cut_at x (b ∷ before_mark after)) (ap (following mark) (sym is) ∙ some) in
     ap (take (length bytes - length rest)) h.whole ∙ take_at h.front rest (length bytes - length rest) (omega (arith, size))
     ∙ sym (h.same ∙ ap (λ x. h.front ++ x) none ∙ append-nil h.front)
 

@@ -5,7 +5,7 @@ use Rattle.std.proofs.lemmas.Bool.{eq-eqb}
 use Rattle.std.specs.Str.{bytes_eq}
 use Rattle.std.proofs.lemmas.Slice.Eq.{bytes_eq-Decides}
 use Rattle.c_syntax.specs.Tokens.{token_text, word_text, prim_text, stray}
-use Rattle.c_syntax.specs.Text.{behind, first_beginning, item_with_text, piece_or, sign_piece, Piece}
+use Rattle.c_syntax.specs.Text.{following, first_beginning, item_with_text, piece_or, sign_piece, Piece}
 use Rattle.c_syntax.specs.declared.token.TheConstants.CWord as words
 use Rattle.c_syntax.specs.declared.program.TheConstants.CPrim as prims
 use Rattle.c_lexer.specs.declared.scan.Mark.{Mark}
@@ -33,9 +33,9 @@ module _ {X : Type 0} (text : X → List ℕ) (test : List ℕ → Bool) where
       at false h rest = rest ∙ sym (ap (λ b. cond b (Some x) (item_with_text text xs cs)) (not_spelled (text x) cs passes h))
 
 -- a text that doesn't begin with a byte begins no text that does
-not_begun : (t : List ℕ) (b : ℕ) (bs : List ℕ) → may_begin b t ≡ false → behind t (b ∷ bs) ≡ None
+not_begun : (t : List ℕ) (b : ℕ) (bs : List ℕ) → may_begin b t ≡ false → following t (b ∷ bs) ≡ None
 not_begun [] b bs e = absurd cc
-not_begun (d ∷ ds) b bs e = ap (λ x. cond x (behind ds bs) None) e
+not_begun (d ∷ ds) b bs e = ap (λ x. cond x (following ds bs) None) e
 
 pub begun_among : (ms : List Mark) (b : ℕ) (bs : List ℕ) (other : Piece) → first_beginning (map mark_token (filter (λ m. may_begin b (token_text (mark_token m))) ms)) (b ∷ bs) other ≡ first_beginning (map mark_token ms) (b ∷ bs) other
 begun_among [] b bs other = refl
@@ -44,7 +44,7 @@ begun_among (m ∷ ms) b bs other = at (may_begin b (token_text (mark_token m)))
     at : (x : Bool) → may_begin b (token_text (mark_token m)) ≡ x
         → first_beginning (map mark_token (filter (λ m. may_begin b (token_text (mark_token m))) ms)) (b ∷ bs) other ≡ first_beginning (map mark_token ms) (b ∷ bs) other
         → first_beginning (map mark_token (cond x (m ∷ filter (λ m. may_begin b (token_text (mark_token m))) ms) (filter (λ m. may_begin b (token_text (mark_token m))) ms))) (b ∷ bs) other ≡ first_beginning (map mark_token (m ∷ ms)) (b ∷ bs) other
-    at true h rest = ap (λ r. piece_or (mark_token m) (behind (token_text (mark_token m)) (b ∷ bs)) r) rest
+    at true h rest = ap (λ r. piece_or (mark_token m) (following (token_text (mark_token m)) (b ∷ bs)) r) rest
     at false h rest = rest ∙ sym (ap (λ x. piece_or (mark_token m) x (first_beginning (map mark_token ms) (b ∷ bs) other)) (not_begun (token_text (mark_token m)) b bs h))
 
 -- ---- looking at the first byte, and at the fourth

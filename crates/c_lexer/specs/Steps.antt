@@ -28,7 +28,7 @@ pub record IsFirst (pieces : ℕ → List ℕ → Piece) (bytes : List ℕ) (tok
   pub rest : List ℕ
   pub begins : bytes ≡ byte ∷ rest
   pub is : token ≡ (pieces byte rest).0
-  pub behind : after ≡ (pieces byte rest).1
+  pub following : after ≡ (pieces byte rest).1
 
 abbrev pub IsPiece : List ℕ → t.Token → List ℕ → Type 0
 IsPiece bytes token after = IsFirst piece bytes token after
@@ -43,4 +43,4 @@ first_piece first.Number = piece
 pub record AreOthers (total : ℕ) (bytes : List ℕ) (before all : List Lexeme) : Type 0 where
   pub more : List Lexeme
   pub are : AreTokensOf total bytes more
-  pub behind : all ≡ before ++ more
+  pub following : all ≡ before ++ more

@@ -1,8 +1,8 @@
 //! From bytes to one token after another.
 
-ghost use Rattle.std.specs.Prelude.{◌≡◌, ◌≤◌, ◌<◌, ◌+◌, ◌^◌, ◌-◌, ℕ, List, [], ◌∷◌, length, map, filter, drop, MatchOption, Some, None, IfOk, IfSome, OnOk};
+ghost use Rattle.std.specs.Prelude.{◌≡◌, ◌≤◌, ◌<◌, ◌+◌, ◌^◌, ◌-◌, ℕ, [], ◌∷◌, length, map, filter, drop, MatchOption, Some, None, IfSome, OnOk};
 ghost use Rattle.c_syntax.specs.Tokens as t;
-ghost use Rattle.c_syntax.specs.Text.{before_mark, first_beginning, behind, fixed_piece, is_blank, is_digit, is_run_byte, max_number, letter_token, number_of, named_token, Piece, past_run, piece, prim_of, quoted_piece, run, run_token, sign_piece, item_with_text, with_digit, word_of, digits_after, is_text_name};
+ghost use Rattle.c_syntax.specs.Text.{before_mark, first_beginning, following, fixed_piece, is_run_byte, max_number, letter_token, number_of, named_token, Piece, past_run, piece, prim_of, quoted_piece, run, run_token, sign_piece, item_with_text, with_digit, word_of, digits_after, is_text_name};
 ghost use Rattle.c_syntax.specs.Tokens.{prim_text, word_text, token_text};
 ghost use Rattle.c_syntax.specs.declared.token.TheConstants.CWord as words;
 ghost use Rattle.c_syntax.specs.declared.program.TheConstants.CPrim as prims;
@@ -120,9 +120,9 @@ fn run_before<'a>(text: &'a [u8], rest: &[u8]) -> &'a [u8]
 }
 
 /// What stands after this prefix, if the text begins with it.
-fn behind<'a>(text: &'a [u8], prefix: &[u8]) -> Option<&'a [u8]>
-    ensures rest { MatchOption result (behind prefix.now text.now ≡ None)
-        (λ rest. behind prefix.now text.now ≡ Some rest.now) }
+fn following<'a>(text: &'a [u8], prefix: &[u8]) -> Option<&'a [u8]>
+    ensures rest { MatchOption result (following prefix.now text.now ≡ None)
+        (λ rest. following prefix.now text.now ≡ Some rest.now) }
     ensures taken { IfSome result (λ rest.
         length rest.now + length prefix.now ≤ length text.now) }
 {
@@ -336,7 +336,7 @@ fn quoted(text: &[u8]) -> (Token<'_>, &[u8])
 {
     let end = past(Class::Run, text);
     let name = run_before(text, end);
-    match behind(end, b"\"") {
+    match following(end, b"\"") {
         Some(rest) => {
             if is_text_name(name) {
                 (Token::Text(name), rest)
@@ -356,7 +356,7 @@ fn first_mark<'a>(marks: &[Mark], text: &'a [u8]) -> Option<(Mark, &'a [u8])>
     ensures shorter { IfSome result (λ x. length x.1.now < length text.now) }
 {
     for &mark in marks {
-        if let Some(rest) = behind(text, mark.text().as_bytes()) {
+        if let Some(rest) = following(text, mark.text().as_bytes()) {
             return Some((mark, rest));
         }
     }
@@ -467,7 +467,7 @@ fn fixed<'a>(text: &'a [u8], prefix: &[u8], token: Token<'a>) -> Option<(Token<'
     ensures shorter { IfSome result (λ x. length x.1.now < length text.now) }
 {
     let (_, after) = text.split_first()?;
-    match behind(text, prefix) {
+    match following(text, prefix) {
         Some(rest) => Some((token, rest)),
         None => Some((Token::Stray, after)),
     }
@@ -511,7 +511,7 @@ pub fn before_mark(text: &[u8]) -> &[u8]
 {
     let mut rest = text;
     while let Some((_, after)) = rest.split_first() {
-        if behind(rest, MARK).is_some() {
+        if following(rest, MARK).is_some() {
             return &text[..text.len() - rest.len()];
         }
         rest = after;

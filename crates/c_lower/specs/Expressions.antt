@@ -33,7 +33,7 @@ abbrev pub first_atom : List Atom → Atom
 first_atom [] = null
 first_atom (a ∷ rest) = a
 
--- `next` are the numbers of temps behind those that the code takes
+-- `next` are the numbers of temps after those that the code takes
 pub record Code : Type 0 where
   pub stmts : List Stmt
   pub atoms : List Atom
@@ -49,7 +49,7 @@ copies vs atoms = map (λ q. c.set q.0 (atom_expr q.1)) (zip vs atoms)
 abbrev pub reads : List CVar → List CCell → List Stmt
 reads vs cells = map (λ q. c.set q.0 (c.cell q.1)) (zip vs cells)
 
--- a temp of a number, set to the expression behind the statements
+-- a temp of a number, set to the expression after the statements
 abbrev pub into_temp : List Stmt → Numbers → c.Expr → Code
 into_temp stmts t e =
     let temp = var_at t of_number in

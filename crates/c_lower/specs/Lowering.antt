@@ -18,7 +18,7 @@ result_of (Some (owning states t args)) = result.Reference
 result_of (Some (guarded k t args)) = result.Reference
 result_of (Some _) = result.Number
 
-abbrev pub vars_between : (first behind : Numbers) → List CVar
+abbrev pub vars_between : (first following : Numbers) → List CVar
 vars_between a b =
     map (λ i. record { reference = false; number = i }) (range_with_len a.n (b.n - a.n))
     ++ map (λ i. record { reference = true; number = i }) (range_with_len a.p (b.p - a.p))

@@ -77,7 +77,7 @@ slot_vars p f v = vars_at (past_all first_numbers (var_sorts p (take v f.vars)))
 abbrev pub param_slots : Program → Func → List CVar
 param_slots p f = vars_at first_numbers (var_sorts p (take f.params f.vars))
 
--- the numbers behind the slots of all variables
+-- the numbers after the slots of all variables
 abbrev pub first_temps : Program → Func → Numbers
 first_temps p f = past_all first_numbers (var_sorts p f.vars)
 
@@ -153,7 +153,7 @@ cell_sorts p f x i = sorts_at p (object_type f x) i
 abbrev pub payload_sort : Ty → Sort
 payload_sort t = if is_number t then of_number else if is_guarded t then of_reference else of_owner
 
--- the numbers behind the case's, and the positions in a variant's slots where those of each sort begin
+-- the numbers after the case's, and the positions in a variant's slots where those of each sort begin
 pub record Starts : Type 0 where
   pub number : ℕ
   pub reference : ℕ
@@ -169,13 +169,13 @@ start_of of_number s = s.number
 start_of of_reference s = s.reference
 start_of of_owner s = s.owner
 
-abbrev pub behind_start : Sort → Starts → Starts
-behind_start of_number s = record s { number = suc s.number }
-behind_start of_reference s = record s { reference = suc s.reference }
-behind_start of_owner s = record s { owner = suc s.owner }
+abbrev pub after_start : Sort → Starts → Starts
+after_start of_number s = record s { number = suc s.number }
+after_start of_reference s = record s { reference = suc s.reference }
+after_start of_owner s = record s { owner = suc s.owner }
 
 -- each payload takes the next slot of its sort
 abbrev pub payload_positions : Starts → List Ty → List ℕ
 payload_positions s [] = []
 payload_positions s (t ∷ ts) =
-    start_of (payload_sort t) s ∷ payload_positions (behind_start (payload_sort t) s) ts
+    start_of (payload_sort t) s ∷ payload_positions (after_start (payload_sort t) s) ts

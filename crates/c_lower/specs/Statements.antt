@@ -34,7 +34,7 @@ puts cells atoms = map (λ q. c.put q.0 (atom_expr q.1)) (zip cells atoms)
 
 pub record StmtCode : Type 0 where
   pub stmts : List Stmt
-  -- the numbers behind its temps
+  -- the numbers after its temps
   pub most : Numbers
 
 abbrev pub most_of_both : Numbers → Numbers → Numbers
@@ -138,22 +138,22 @@ atom_for s i (j ∷ js) (a ∷ rest) = if i == j then a else atom_for s i js res
 atom_for of_number i _ _ = number (pos 0)
 atom_for s i _ _ = null
 
--- the slots behind the case's, from this position on
+-- the slots after the case's, from this position on
 abbrev pub build_slots : (position : ℕ) → (positions : List ℕ) → List Atom → List Slot → List Stmt
 build_slots i positions atoms [] = []
 build_slots i positions atoms (s ∷ slots) =
     c.set s.var (atom_expr (atom_for s.sort i positions atoms)) ∷ build_slots (suc i) positions atoms slots
 
-abbrev pub behind_first : {A : Type 0} → List A → List A
-behind_first [] = []
-behind_first (x ∷ xs) = xs
+abbrev pub after_first : {A : Type 0} → List A → List A
+after_first [] = []
+after_first (x ∷ xs) = xs
 
 abbrev pub build_code : Program → Func → Numbers → (v case : ℕ) → List Operand → StmtCode
 build_code p f t v k os =
     let args = operand_codes p f t os in
     stmt_code
     (args.stmts ++ c.set (slot_of p f v) (whole k)
-    ∷ build_slots 1 (case_positions p (variant_type f v) k) (map first_atom args.atoms) (behind_first (var_slots p f v)))
+    ∷ build_slots 1 (case_positions p (variant_type f v) k) (map first_atom args.atoms) (after_first (var_slots p f v)))
     args.next
 
 -- ---- simple statements
@@ -202,7 +202,7 @@ name_of p g =
     let glue = is_external_at (slice_get p.fns g) in
     record { glue = glue; number = length (filter (λ f. is_alike glue f.external) (take g p.fns)) }
 
--- what the slots behind the first get of the runtime: those of each kind are numbered from 0
+-- what the slots after the first get of the runtime: those of each kind are numbered from 0
 abbrev pub result_gets : CPrim → List CVar → List Stmt
 result_gets f vs = map (λ q. runtime_value q.1 f (count_arg q.0 ∷ [])) (enumerate_from 0 vs)
 
@@ -219,7 +219,7 @@ abbrev pub call_stmts : Program → Func → c.Call → Option ℕ → List Stmt
 call_stmts p f call None = c.call call ∷ []
 call_stmts p f call (Some v) =
     c.set_call (slot_of p f v) call
-    ∷ (if is_variant (var_type f v) then results (behind_first (slot_vars p f v)) else [])
+    ∷ (if is_variant (var_type f v) then results (after_first (slot_vars p f v)) else [])
 
 abbrev pub call_code : Program → Func → Numbers → (g : ℕ) → Option ℕ → List Operand → StmtCode
 call_code p f t g target os =
@@ -234,7 +234,7 @@ is_reference_atom null = true
 abbrev pub result_puts : CPrim → List Atom → List Stmt
 result_puts f atoms = map (λ q. runtime_call f (count_arg q.0 ∷ atom_arg q.1 ∷ [])) (enumerate_from 0 atoms)
 
--- a variant's slots behind the first are handed over by the runtime
+-- a variant's slots after the first are handed over by the runtime
 abbrev pub rest_puts : List Atom → List Stmt
 rest_puts atoms =
     result_puts prim.PutN (filter (λ a. is_alike (is_reference_atom a) false) atoms)
@@ -242,7 +242,7 @@ rest_puts atoms =
 
 abbrev pub return_stmts : Option Ty → List Atom → List Stmt
 return_stmts ty atoms =
-    (if is_variant ty then rest_puts (behind_first atoms) else [])
+    (if is_variant ty then rest_puts (after_first atoms) else [])
     ++ c.return (Some (atom_expr (first_atom atoms))) ∷ []
 
 abbrev pub return_code : Program → Func → Numbers → Option Operand → StmtCode
@@ -262,7 +262,7 @@ arm_copies p f v (i ∷ is) (w ∷ ws) =
 arm_copies p f v _ _ = []
 
 abbrev mutual
-  -- Nested lists take their temps from where the statement does, but behind those that a switch or a focus needs.
+  -- Nested lists take their temps from where the statement does, but after those that a switch or a focus needs.
   pub form_code : Program → Func → Numbers → core.Form → StmtCode
   form_code p f t (core.simple s) = simple_code p f t s
   form_code p f t (core.call g target keys os) = call_code p f t g target os

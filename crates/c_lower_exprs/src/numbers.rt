@@ -1,7 +1,7 @@
 //! Numbers of slots, and the variable or cell of each.
 
 ghost use Rattle.std.specs.Prelude.{◌≡◌, suc, IfOk};
-ghost use Rattle.c_lower.specs.Slots.{cell_at, first_numbers, past, var_at};
+ghost use Rattle.c_lower.specs.Slots.{cell_at, past, var_at};
 ghost use Rattle.c_lower.specs.Statements.{most_of_both};
 ghost use Rattle.c_lower_exprs.specs.Tables.{numbers_of, sort_of, IsTempAt};
 

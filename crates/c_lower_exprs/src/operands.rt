@@ -1,6 +1,6 @@
 //! All atoms of expressions and operands.
 
-ghost use Rattle.std.specs.Prelude.{◌≡◌, [], ◌∷◌, map, Bool, true, IfOk};
+ghost use Rattle.std.specs.Prelude.{◌≡◌, [], ◌∷◌, map, true, IfOk};
 ghost use Rattle.vlt_core.specs.Core as core;
 ghost use Rattle.vlt_core.specs.View as v;
 ghost use Rattle.c_syntax.specs.View.{stmt_of};

@@ -1,6 +1,6 @@
 //! Whether an operator leaves 64 bits.
 
-ghost use Rattle.std.specs.Prelude.{◌≡◌, Bool, false, true, IfOk};
+ghost use Rattle.std.specs.Prelude.{◌≡◌, false, true, IfOk};
 ghost use Rattle.c_syntax.specs.View.{expr_of};
 ghost use Rattle.c_lower.specs.Expressions.{atom_expr};
 ghost use Rattle.c_lower.specs.Guards as g;

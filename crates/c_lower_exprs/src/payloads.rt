@@ -3,7 +3,7 @@
 ghost use Rattle.std.specs.Prelude.{◌≡◌, map, IfOk};
 ghost use Rattle.vlt_core.specs.Lookups.{case_at};
 ghost use Rattle.vlt_core.specs.View.{ty_of};
-ghost use Rattle.c_lower.specs.Slots.{behind_start, payload_positions, start_of, variant_starts};
+ghost use Rattle.c_lower.specs.Slots.{after_start, payload_positions, start_of, variant_starts};
 ghost use Rattle.c_lower.specs.Statements.{case_positions, payload_in};
 ghost use Rattle.c_lower_exprs.specs.Tables.{sort_of};
 ghost use Rattle.c_lower_exprs.specs.Scopes.{IsScope, program_in, starts_of};
@@ -38,7 +38,7 @@ impl Starts {
 
     /// The starts after a payload of the sort.
     fn past(self, sort: Sort) -> Result<Starts, Memory>
-        ensures { IfOk result (λ s. starts_of s ≡ behind_start (sort_of sort) (starts_of self)) }
+        ensures { IfOk result (λ s. starts_of s ≡ after_start (sort_of sort) (starts_of self)) }
     {
         let next = successor(self.of(sort))?;
         Ok(match sort {

@@ -5,7 +5,7 @@ ghost use Rattle.std.specs.Option.{option_copied};
 ghost use Rattle.vlt_core.specs.Lookups.{fields_of};
 ghost use Rattle.vlt_core.specs.View.{field_of};
 ghost use Rattle.c_lower.specs.Slots as s;
-ghost use Rattle.c_lower.specs.Statements.{behind_first, name_of, variant_type};
+ghost use Rattle.c_lower.specs.Statements.{after_first, name_of, variant_type};
 ghost use Rattle.c_lower.specs.Slots.{cell_counts, cells_at, field_cells, object_type, sorts_at, var_slots};
 ghost use Rattle.c_lower_exprs.specs.Tables.{field_view, numbers_of, slot_view, sort_of};
 ghost use Rattle.c_lower_exprs.specs.Scopes.{IsScope, field_at, program_in, func_in};
@@ -84,7 +84,7 @@ impl<'a> Scope<'a> {
     pub fn rest_slots(&self, v: VarId) -> &[Slot]
         requires { IsScope self.now }
         ensures { map slot_view result.now
-            ≡ behind_first (var_slots (program_in self.now) (func_in self.now) v.0) }
+            ≡ after_first (var_slots (program_in self.now) (func_in self.now) v.0) }
     {
         match self.slots(v).split_first() {
             Some((_, rest)) => rest,

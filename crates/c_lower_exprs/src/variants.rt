@@ -5,7 +5,7 @@ ghost use Rattle.std.specs.List.{count_by};
 ghost use Rattle.vlt_core.specs.Lookups.{cases_in};
 ghost use Rattle.vlt_core.specs.Widths.{greatest};
 ghost use Rattle.vlt_core.specs.View.{program_of, case_of, ty_of, type_of};
-ghost use Rattle.c_lower_exprs.specs.Tables.{is_of, widths_view, widths_in, widths_at, widths_of_cases, AreWidths};
+ghost use Rattle.c_lower_exprs.specs.Tables.{is_of, widths_view, widths_at, widths_of_cases, AreWidths};
 
 use crate::sorts::Sort;
 use std::alloc::Global;

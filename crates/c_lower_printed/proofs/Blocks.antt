@@ -12,7 +12,7 @@ use Rattle.vlt_core.specs.View.{stmts_made, arms_made}
 use Rattle.vlt_kinds_types.specs.declared.names.found.Refusal.{Refusal}
 use Rattle.vlt_kinds_types.specs.Names.Refusals.{least_from}
 use Rattle.vlt_kinds.specs.Kinds.{Kinds}
-use Rattle.vlt_resolve_exprs.specs.Scopes.{Scope, var_ty, scope_inside, scope_behind}
+use Rattle.vlt_resolve_exprs.specs.Scopes.{Scope, var_ty, scope_inside, scope_after}
 use Rattle.vlt_resolve_exprs.specs.Exprs.{wanted_refused, core_expr, var_number}
 use Rattle.vlt_resolve_stmts.specs.Around.{Around, inside_loop, inside_focus}
 use Rattle.vlt_resolve_stmts.specs.Statements.{simple_refused, simple_became}
@@ -142,14 +142,14 @@ module _ (kinds : Kinds) where
         let u = unless_ok (least_from found (focus_refused kinds inside ty y k z)) _ r e in
         let a = then_ok (walk_stmts kinds (inside_focus around) (bound_scope inside ty k z) false ss) _ r u.1 in
         let q = stmts_within (inside_focus around) (bound_scope inside ty k z) (room - 1) false ss a.first g.1 a.one in
-        subst (λ z. Each (IsWithin room) z.0) (same_ok (core.focus (var_number scope y) (length scope.vars) (block_made a.first (close.to - 1)) ∷ [], scope_behind scope a.first.1) r a.rest)
+        subst (λ z. Each (IsWithin room) z.0) (same_ok (core.focus (var_number scope y) (length scope.vars) (block_made a.first (close.to - 1)) ∷ [], scope_after scope a.first.1) r a.rest)
         (one_deeper room (nested (stmts_made a.first.0)) g.0 (together (room - 1) a.first.0 q), tt)
 
     block_within : (around : Around) (scope : Scope) (room : ℕ) (b : Block) (r : core.Block × Scope) → IsBlock language room b
         → walk_block kinds around scope b ≡ Ok r → nested_block r.0 ≤ room - 1
     block_within around scope room (s.braced ss at) r g e =
         let a = then_ok (walk_stmts kinds around (scope_inside scope) false ss) _ r e in
-        subst (λ z. nested_block z.0 ≤ room - 1) (same_ok (block_made a.first (at.to - 1), scope_behind scope a.first.1) r a.rest)
+        subst (λ z. nested_block z.0 ≤ room - 1) (same_ok (block_made a.first (at.to - 1), scope_after scope a.first.1) r a.rest)
         (together (room - 1) a.first.0 (stmts_within around (scope_inside scope) (room - 1) false ss a.first g.1 a.one))
 
     else_within : (around : Around) (scope : Scope) (room end : ℕ) (o : Else) (r : core.Block × Scope) → IsElse language room o
@@ -177,7 +177,7 @@ module _ (kinds : Kinds) where
         let y = then_ok (walk_stmts kinds around (arm_scope (scope_inside scope) c vs) false ss) _ a.first u.1 in
         let q = stmts_within around (arm_scope (scope_inside scope) c vs) (room - 1) false ss y.first g.0.1 y.one in
         let here : nested_block a.first.0.2 ≤ room - 1 =
-        subst (λ z. nested_block z.0.2 ≤ room - 1) (same_ok ((case_number c, arm_numbers (scope_inside scope) c vs, block_made y.first (close.to - 1)), scope_behind scope y.first.1) a.first y.rest)
+        subst (λ z. nested_block z.0.2 ≤ room - 1) (same_ok ((case_number c, arm_numbers (scope_inside scope) c vs, block_made y.first (close.to - 1)), scope_after scope y.first.1) a.first y.rest)
         (together (room - 1) y.first.0 q) in
         let more = arms_within around a.first.1 room ty rest d.first g.1 d.one in
         subst (λ z. nested_arms (arms_made z.0) ≤ room - 1) (same_ok (a.first.0 ∷ d.first.0, d.first.1) r d.rest) (max-le here more)

@@ -1,6 +1,6 @@
 //! The C program of a core program.
 
-ghost use Rattle.std.specs.Prelude.{◌≡◌, nat_lt, Bool, false, length, IfOk, MatchResult};
+ghost use Rattle.std.specs.Prelude.{◌≡◌, nat_lt, false, IfOk, MatchResult};
 ghost use Rattle.vlt_base.specs.Limits.{limit_of};
 ghost use Rattle.vlt_core.specs.View as view;
 ghost use Rattle.c_syntax.specs.View.{program_of};

@@ -32,7 +32,7 @@ use Rattle.c_meaning.specs.Values.{arg_values}
 use Rattle.c_meaning.specs.Run as crun
 use Rattle.c_lower.specs.Slots.{Numbers, first_temps, param_slots, slot_of, slot_vars, first_slot, vars_at, slot_sorts, sorts_of, first_numbers, var_sorts}
 use Rattle.c_lower.specs.Expressions.{Atom, atom_arg, operand_codes}
-use Rattle.c_lower.specs.Statements.{is_variant, call_stmts, results, behind_first, name_of, is_external_at, list_code, body_of, form_code}
+use Rattle.c_lower.specs.Statements.{is_variant, call_stmts, results, after_first, name_of, is_external_at, list_code, body_of, form_code}
 use Rattle.c_lower.specs.Lowering.{lowered, result_of}
 use Rattle.c_lower_worlds.specs.Operators.Codes.{AreUpTo, IsBelow}
 use Rattle.c_lower_worlds.proofs.OfOperators.Codes.{up_self, alike_self}
@@ -218,9 +218,9 @@ module _ (p : Program) (R : crun.Setup) (cm : crun.Meaning) where
 
   -- of any list of slots with as many values
   received : (vs : List CVar) (values : List cw.Value) (many : Bool) (frame : crun.Frame) (w : source.World) (g : Registers) (j : ℕ) (first : cw.Value) → FitKinds vs values →
-      AllApart vs → first_value values ≡ Some first → (many ≡ false → behind_first values ≡ []) →
-      InRegisters (if many then behind_first values else []) g →
-      (to : crun.Frame) × (crun.does_stmts R cm j (stmts_made (if many then results (behind_first vs) else [])) (crun.with_var (first_slot vs) first frame) (c_world p g w) ≡ crun.goes to (c_world p g w)) ×
+      AllApart vs → first_value values ≡ Some first → (many ≡ false → after_first values ≡ []) →
+      InRegisters (if many then after_first values else []) g →
+      (to : crun.Frame) × (crun.does_stmts R cm j (stmts_made (if many then results (after_first vs) else [])) (crun.with_var (first_slot vs) first frame) (c_world p g w) ≡ crun.goes to (c_world p g w)) ×
       HaveValues vs values to × ((u : CVar) → Each (Apart u) vs → to.vars u ≡ frame.vars u) × (to.depth ≡ frame.depth) × (to.is_glue ≡ frame.is_glue)
   received [] [] many frame w g j first k apart e single h = absurd (none-some first e)
   received [] (a ∷ values) many frame w g j first k apart e single h = absurd k
@@ -265,18 +265,18 @@ module _ (p : Program) (R : crun.Setup) (cm : crun.Meaning) where
   some_first ts (core.variant t args) a h = (cw.number (pos h.case), ap (λ a. first_value (slot_values p (core.variant t args) a)) h.is)
   some_first ts (core.owning_variant t args) a h = (cw.number (pos h.case), ap (λ a. first_value (slot_values p (core.owning_variant t args) a)) h.is)
 
-  no_more : (ts : List ℕ) (ty : Ty) (a : source.Value) → HasShape p ts ty a → is_variant (Some ty) ≡ false → behind_first (slot_values p ty a) ≡ []
-  no_more ts core.int a h e = ap (λ a. behind_first (slot_values p core.int a)) h.is
-  no_more ts core.bool a h e = ap (λ a. behind_first (slot_values p core.bool a)) h.is
-  no_more ts (core.tracked k t args) a h e = ap (λ a. behind_first (slot_values p (core.tracked k t args) a)) h.is
-  no_more ts (core.guarded k t args) a h e = ap (λ a. behind_first (slot_values p (core.guarded k t args) a)) h.is
-  no_more ts (core.owning states t args) a h e = ap (λ a. behind_first (slot_values p (core.owning states t args) a)) h.is
+  no_more : (ts : List ℕ) (ty : Ty) (a : source.Value) → HasShape p ts ty a → is_variant (Some ty) ≡ false → after_first (slot_values p ty a) ≡ []
+  no_more ts core.int a h e = ap (λ a. after_first (slot_values p core.int a)) h.is
+  no_more ts core.bool a h e = ap (λ a. after_first (slot_values p core.bool a)) h.is
+  no_more ts (core.tracked k t args) a h e = ap (λ a. after_first (slot_values p (core.tracked k t args) a)) h.is
+  no_more ts (core.guarded k t args) a h e = ap (λ a. after_first (slot_values p (core.guarded k t args) a)) h.is
+  no_more ts (core.owning states t args) a h e = ap (λ a. after_first (slot_values p (core.owning states t args) a)) h.is
   no_more ts (core.variant t args) a h e = absurd (true≢false e)
   no_more ts (core.owning_variant t args) a h e = absurd (true≢false e)
 
   abbrev pub tail_of : Func → Option ℕ → List syntax.Stmt
   tail_of f None = []
-  tail_of f (Some v) = if is_variant (var_type f v) then results (behind_first (slot_vars p f v)) else []
+  tail_of f (Some v) = if is_variant (var_type f v) then results (after_first (slot_vars p f v)) else []
 
   abbrev pub target_slot : Func → Option ℕ → Option CVar
   target_slot f None = None
@@ -324,9 +324,9 @@ module _ (p : Program) (R : crun.Setup) (cm : crun.Meaning) where
       fit = subst (λ o. FitKinds (vars_at (starts p f x) (sorts_of p o)) (slot_values p fits.ty a)) (sym fits.declared)
           (slots_fit (starts p f x) (slot_sorts p fits.ty) (slot_values p fits.ty a) (shape_sorts p (types_of w.objects) fits.ty a shape))
 
-      in_registers : InRegisters (if is_variant (var_type f x) then behind_first (slot_values p fits.ty a) else []) g
-      in_registers = subst (λ vs. InRegisters (if is_variant (var_type f x) then behind_first vs else []) g) (fits.values a)
-          (subst (λ b. InRegisters (if b then behind_first (slot_values p fits.given a) else []) g) (fits.variant ∙ sym many_is) given.rest)
+      in_registers : InRegisters (if is_variant (var_type f x) then after_first (slot_values p fits.ty a) else []) g
+      in_registers = subst (λ vs. InRegisters (if is_variant (var_type f x) then after_first vs else []) g) (fits.values a)
+          (subst (λ b. InRegisters (if b then after_first (slot_values p fits.given a) else []) g) (fits.variant ∙ sym many_is) given.rest)
 
       filled : (first : cw.Value) × (first_value (slot_values p fits.ty a) ≡ Some first) →
           Same p f t k frame (step.goes (step.with_var x (Some a) s) v)
@@ -502,19 +502,19 @@ module _ (p : Program) (heap depth : ℕ) (cm : crun.Meaning) (m : run.Meaning) 
         let knows = known f ids g gf target keys os is at row in
         where_same p f t k frame (length os == gf.params) source.missing None w _ _ (λ long.
         subst (λ st. Same p f t k frame st (crun.does_stmts c_setup cm i (stmts_made (form_code p f t (core.call g target keys os)).stmts) frame (c_world p regs w)))
-        (operands_tested p types_fit f is ids (map (with_keys keys) (parameters_of gf)) os s w (behind gf) knows.fits scope.names)
+        (operands_tested p types_fit f is ids (map (with_keys keys) (parameters_of gf)) os s w (following gf) knows.fits scope.names)
         (arguments_then p c_setup cm operands f os ids call.types t t k s w frame regs i
-        (λ values s2 w2. step.where_so (are_of_tys s2.keys (map (with_keys keys) (parameters_of gf)) values) source.missing None w2 (λ w3. behind gf values s2 w3)) (call_stmts p f (syntax.function (name_of p g) (flat_map (map atom_arg) (operand_codes p f t os).atoms)) target)
+        (λ values s2 w2. step.where_so (are_of_tys s2.keys (map (with_keys keys) (parameters_of gf)) values) source.missing None w2 (λ w3. following gf values s2 w3)) (call_stmts p f (syntax.function (name_of p g) (flat_map (map atom_arg) (operand_codes p f t os).atoms)) target)
         is kinded.proper call.fits up (up_self t) begin (λ values s2 w2 to j h.
         let have = h.have to (c_world p regs w2).blocks (alike_self (operand_codes p f t os).next to) in
         let args = args_are p (operand_codes p f t os).atoms call.types values to (c_world p regs w2).blocks have in
-        where_same p f t k to (are_of_tys s2.keys (map (with_keys keys) (parameters_of gf)) values) source.missing None w2 (λ w3. behind gf values s2 w3) _ (λ passes.
+        where_same p f t k to (are_of_tys s2.keys (map (with_keys keys) (parameters_of gf)) values) source.missing None w2 (λ w3. following gf values s2 w3) _ (λ passes.
         by gf at row call knows values s2 w2 to j h.begins h.shapes (call.count (types_of w2.objects) values h.shapes ∙ eqb-true (length os) gf.params long) args
         (args_long p (operand_codes p f t os).atoms call.types values to (c_world p regs w2).blocks have)
         (tys_passed s2.keys (map (with_keys keys) (parameters_of gf)) values passes) gf.external refl)))))
       where
-        behind : Func → List source.Value → source.Frame → source.World → step.Step
-        behind gf values s2 w2 = step.spend w2 (λ w. run.call_by gf.external setup m f target keys (called_instance p gf keys s2 w.objects) values s2 w)
+        following : Func → List source.Value → source.Frame → source.World → step.Step
+        following gf values s2 w2 = step.spend w2 (λ w. run.call_by gf.external setup m f target keys (called_instance p gf keys s2 w.objects) values s2 w)
 
         xs : List syntax.Arg
         xs = flat_map (map atom_arg) (operand_codes p f t os).atoms

@@ -14,7 +14,7 @@ use Rattle.c_lower_worlds.specs.Same.{rest_values}
 use Rattle.c_lower_worlds.specs.Operands.{RegistersSuffice}
 use Rattle.c_lower_worlds.specs.Sorts.{AreOfSorts}
 use Rattle.c_lower_worlds.specs.Naming.Lists.{Each}
-use Rattle.c_lower.specs.Statements.{behind_first}
+use Rattle.c_lower.specs.Statements.{after_first}
 use Rattle.c_lower_worlds.proofs.VariantSlots.{shape_sorts, counted, counted_is}
 
 -- no case has more than eight payloads
@@ -92,19 +92,19 @@ references_in_all zero (suc b) c = let e = references_in_all zero b c in omega a
 references_in_all (suc a) b c = references_in_all a b c
 
 module _ (p : Program) (few : FewPayloads p) where
-  rest_sorts : (s : Sort) (ss : List Sort) (vs : List cw.Value) → AreOfSorts (s ∷ ss) vs → AreOfSorts ss (behind_first vs)
+  rest_sorts : (s : Sort) (ss : List Sort) (vs : List cw.Value) → AreOfSorts (s ∷ ss) vs → AreOfSorts ss (after_first vs)
   rest_sorts s ss [] h = absurd h
   rest_sorts s ss (a ∷ vs) h = h.1
 
-  variant_numbers : (t : ℕ) (vs : List cw.Value) → AreOfSorts (variant_sorts p t) vs → length (numbers_in (behind_first vs)) ≤ 8
+  variant_numbers : (t : ℕ) (vs : List cw.Value) → AreOfSorts (variant_sorts p t) vs → length (numbers_in (after_first vs)) ≤ 8
   variant_numbers t vs h =
       let a = most_of is_number p t in
-      let e = numbers_long _ (behind_first vs) (rest_sorts of_number _ vs h) ∙ numbers_in_all (most_of is_number p t) (most_of is_guarded p t) (most_of is_owning p t) in
+      let e = numbers_long _ (after_first vs) (rest_sorts of_number _ vs h) ∙ numbers_in_all (most_of is_number p t) (most_of is_guarded p t) (most_of is_owning p t) in
       subst (λ n. n ≤ 8) (sym e) (few_of is_number (cases_of p t) (few.few t))
 
-  variant_references : (t : ℕ) (vs : List cw.Value) → AreOfSorts (variant_sorts p t) vs → length (references_in (behind_first vs)) ≤ 16
+  variant_references : (t : ℕ) (vs : List cw.Value) → AreOfSorts (variant_sorts p t) vs → length (references_in (after_first vs)) ≤ 16
   variant_references t vs h =
-      let e = references_long _ (behind_first vs) (rest_sorts of_number _ vs h) ∙ references_in_all (most_of is_number p t) (most_of is_guarded p t) (most_of is_owning p t) in
+      let e = references_long _ (after_first vs) (rest_sorts of_number _ vs h) ∙ references_in_all (most_of is_number p t) (most_of is_guarded p t) (most_of is_owning p t) in
       let b = few_of is_guarded (cases_of p t) (few.few t) in
       let c = few_of is_owning (cases_of p t) (few.few t) in
       subst (λ n. n ≤ 16) (sym e) (sum (most_of is_guarded p t) (most_of is_owning p t) b c)

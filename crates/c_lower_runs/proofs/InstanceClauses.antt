@@ -79,8 +79,8 @@ module _ (p : Program) (f : Func) (keys : List ℕ) (s : source.Frame) (os : Lis
       E : Mode → Entry
       E m = entry_of_instance p f o (record e { mode = m })
 
-      behind : (m : Mode) → (passed_object p f keys s os (E m) >>= (λ n. passed_objects p f keys s os rest >>= (λ ns. Ok (n.number ∷ ns)))) ≡ Ok ns → (ns : List ℕ) × (passed_objects p f keys s os rest ≡ Ok ns)
-      behind m is =
+      following : (m : Mode) → (passed_object p f keys s os (E m) >>= (λ n. passed_objects p f keys s os rest >>= (λ ns. Ok (n.number ∷ ns)))) ≡ Ok ns → (ns : List ℕ) × (passed_objects p f keys s os rest ≡ Ok ns)
+      following m is =
           let a = then_ok (passed_object p f keys s os (E m)) (λ n. passed_objects p f keys s os rest >>= (λ ns. Ok (n.number ∷ ns))) ns is in
           let b = then_ok (passed_objects p f keys s os rest) (λ ns. Ok (a.found.number ∷ ns)) ns a.second in
           (b.found, b.first)
@@ -89,12 +89,12 @@ module _ (p : Program) (f : Func) (keys : List ℕ) (s : source.Frame) (os : Lis
           (if is_before (mode_of_instance m) then (passed_object p f keys s os (E m) >>= (λ n. passed_objects p f keys s os rest >>= (λ ns. Ok (n.number ∷ ns)))) else passed_objects p f keys s os rest) ≡ Ok ns →
           ((ns : List ℕ) → AreProper p f es → passed_objects p f keys s os rest ≡ Ok ns → Each (λ e. IsProper (after_set p f e)) (filter is_held_after rest)) →
           Each (λ e. IsProper (after_set p f e)) (if is_after (mode_of_instance m) then E m ∷ filter is_held_after rest else filter is_held_after rest)
-      by core.kept h is more = let r = behind core.kept is in (h.0, more r.0 h.1 r.1)
-      by core.taken h is more = let r = behind core.taken is in more r.0 h r.1
+      by core.kept h is more = let r = following core.kept is in (h.0, more r.0 h.1 r.1)
+      by core.taken h is more = let r = following core.taken is in more r.0 h r.1
       by core.given h is more = (h.0, more ns h.1 is)
       by core.fresh h is more = (h.0, more ns h.1 is)
       by (core.up_to b) h is more =
-          let r = behind (core.up_to b) is in
+          let r = following (core.up_to b) is in
           let a = then_ok (passed_object p f keys s os (E (core.up_to b))) (λ n. passed_objects p f keys s os rest >>= (λ ns. Ok (n.number ∷ ns))) ns is in
           let q = passed_in (E (core.up_to b)) a.found a.first in
           (one_proper (key_states_up_to p f e.key b) o q.0 h.0 q.1, more r.0 h.1 r.1)

@@ -9,7 +9,7 @@ use Rattle.vlt_core.specs.KindedHeads.{has}
 use Rattle.vlt_meaning.specs.World.{Part}
 use Rattle.c_syntax.specs.declared.program.CVar.{CVar}
 use Rattle.c_meaning.specs.Run.{Frame}
-use Rattle.c_lower.specs.Slots.{Sort, Starts, start_of, behind_start, payload_sort, payload_positions}
+use Rattle.c_lower.specs.Slots.{Sort, Starts, start_of, after_start, payload_sort, payload_positions}
 use Rattle.c_lower.specs.Glue.{slot_at}
 use Rattle.c_lower_worlds.specs.Worlds.{c_part, case_value, case_values, unused}
 use Rattle.c_lower_worlds.specs.Frames.{HaveValues}
@@ -36,60 +36,60 @@ Lies s a b c j = Between s.number a j ⊎ (Between s.reference b j ⊎ Between s
 
 record Stepped (t : Ty) (s : Starts) (ts : List Ty) (a b c : ℕ) : Type 0 where
   here : Lies s a b c (start_of (payload_sort t) s)
-  rest : Inside (behind_start (payload_sort t) s) ts a b c
-  wider : (j : ℕ) → Lies (behind_start (payload_sort t) s) a b c j → Lies s a b c j
-  apart : (j : ℕ) → Lies (behind_start (payload_sort t) s) a b c j → start_of (payload_sort t) s ≢ j
+  rest : Inside (after_start (payload_sort t) s) ts a b c
+  wider : (j : ℕ) → Lies (after_start (payload_sort t) s) a b c j → Lies s a b c j
+  apart : (j : ℕ) → Lies (after_start (payload_sort t) s) a b c j → start_of (payload_sort t) s ≢ j
 
 module _ (s : Starts) (ts : List Ty) (a b c : ℕ) where
   number_stepped : (t : Ty) → payload_sort t ≡ payload_sort core.int → Inside s (core.int ∷ ts) a b c → Stepped core.int s ts a b c
   number_stepped t e h =
-      let n = h.numbers in let bn = h.behind_numbers in let r = h.references in let br = h.behind_references in let o = h.owners in
-      record { here = inl (record { from = omega arith; below = omega arith }); rest = record { numbers = omega arith; behind_numbers = bn; references = r; behind_references = br; owners = o }; wider = wider; apart = apart }
+      let n = h.numbers in let bn = h.after_numbers in let r = h.references in let br = h.after_references in let o = h.owners in
+      record { here = inl (record { from = omega arith; below = omega arith }); rest = record { numbers = omega arith; after_numbers = bn; references = r; after_references = br; owners = o }; wider = wider; apart = apart }
     where
-      wider : (j : ℕ) → Lies (behind_start (payload_sort core.int) s) a b c j → Lies s a b c j
+      wider : (j : ℕ) → Lies (after_start (payload_sort core.int) s) a b c j → Lies s a b c j
       wider j (inl x) = let f = x.from in inl (record { from = omega arith; below = x.below })
       wider j (inr (inl x)) = inr (inl (record { from = x.from; below = x.below }))
       wider j (inr (inr x)) = inr (inr (record { from = x.from; below = x.below }))
 
-      apart : (j : ℕ) → Lies (behind_start (payload_sort core.int) s) a b c j → s.number ≢ j
+      apart : (j : ℕ) → Lies (after_start (payload_sort core.int) s) a b c j → s.number ≢ j
       apart j (inl x) e = let f = x.from in absurd (omega arith)
-      apart j (inr (inl x)) e = let f = x.from in let n = h.numbers in let bn = h.behind_numbers in absurd (omega arith)
-      apart j (inr (inr x)) e = let f = x.from in let n = h.numbers in let bn = h.behind_numbers in let r = h.references in let br = h.behind_references in absurd (omega arith)
+      apart j (inr (inl x)) e = let f = x.from in let n = h.numbers in let bn = h.after_numbers in absurd (omega arith)
+      apart j (inr (inr x)) e = let f = x.from in let n = h.numbers in let bn = h.after_numbers in let r = h.references in let br = h.after_references in absurd (omega arith)
 
   reference_stepped : (k t : ℕ) (args : List ℕ) → Inside s (core.guarded k t args ∷ ts) a b c → Stepped (core.guarded k t args) s ts a b c
   reference_stepped k t args h =
-      let n = h.numbers in let bn = h.behind_numbers in let r = h.references in let br = h.behind_references in let o = h.owners in
-      record { here = inr (inl (record { from = omega arith; below = omega arith })); rest = record { numbers = n; behind_numbers = omega arith; references = omega arith; behind_references = br; owners = o }; wider = wider; apart = apart }
+      let n = h.numbers in let bn = h.after_numbers in let r = h.references in let br = h.after_references in let o = h.owners in
+      record { here = inr (inl (record { from = omega arith; below = omega arith })); rest = record { numbers = n; after_numbers = omega arith; references = omega arith; after_references = br; owners = o }; wider = wider; apart = apart }
     where
-      wider : (j : ℕ) → Lies (behind_start (payload_sort (core.guarded k t args)) s) a b c j → Lies s a b c j
+      wider : (j : ℕ) → Lies (after_start (payload_sort (core.guarded k t args)) s) a b c j → Lies s a b c j
       wider j (inl x) = inl (record { from = x.from; below = x.below })
       wider j (inr (inl x)) = let f = x.from in inr (inl (record { from = omega arith; below = x.below }))
       wider j (inr (inr x)) = inr (inr (record { from = x.from; below = x.below }))
 
-      apart : (j : ℕ) → Lies (behind_start (payload_sort (core.guarded k t args)) s) a b c j → s.reference ≢ j
-      apart j (inl x) e = let f = x.below in let bn = h.behind_numbers in absurd (omega arith)
+      apart : (j : ℕ) → Lies (after_start (payload_sort (core.guarded k t args)) s) a b c j → s.reference ≢ j
+      apart j (inl x) e = let f = x.below in let bn = h.after_numbers in absurd (omega arith)
       apart j (inr (inl x)) e = let f = x.from in absurd (omega arith)
-      apart j (inr (inr x)) e = let f = x.from in let r = h.references in let br = h.behind_references in absurd (omega arith)
+      apart j (inr (inr x)) e = let f = x.from in let r = h.references in let br = h.after_references in absurd (omega arith)
 
   owner_stepped : (states : core.States) (t : ℕ) (args : List ℕ) → Inside s (core.owning states t args ∷ ts) a b c → Stepped (core.owning states t args) s ts a b c
   owner_stepped states t args h =
-      let n = h.numbers in let bn = h.behind_numbers in let r = h.references in let br = h.behind_references in let o = h.owners in
-      record { here = inr (inr (record { from = omega arith; below = omega arith })); rest = record { numbers = n; behind_numbers = bn; references = r; behind_references = omega arith; owners = omega arith }; wider = wider; apart = apart }
+      let n = h.numbers in let bn = h.after_numbers in let r = h.references in let br = h.after_references in let o = h.owners in
+      record { here = inr (inr (record { from = omega arith; below = omega arith })); rest = record { numbers = n; after_numbers = bn; references = r; after_references = omega arith; owners = omega arith }; wider = wider; apart = apart }
     where
-      wider : (j : ℕ) → Lies (behind_start (payload_sort (core.owning states t args)) s) a b c j → Lies s a b c j
+      wider : (j : ℕ) → Lies (after_start (payload_sort (core.owning states t args)) s) a b c j → Lies s a b c j
       wider j (inl x) = inl (record { from = x.from; below = x.below })
       wider j (inr (inl x)) = inr (inl (record { from = x.from; below = x.below }))
       wider j (inr (inr x)) = let f = x.from in inr (inr (record { from = omega arith; below = x.below }))
 
-      apart : (j : ℕ) → Lies (behind_start (payload_sort (core.owning states t args)) s) a b c j → s.owner ≢ j
-      apart j (inl x) e = let f = x.below in let bn = h.behind_numbers in let r = h.references in let br = h.behind_references in absurd (omega arith)
-      apart j (inr (inl x)) e = let f = x.below in let br = h.behind_references in absurd (omega arith)
+      apart : (j : ℕ) → Lies (after_start (payload_sort (core.owning states t args)) s) a b c j → s.owner ≢ j
+      apart j (inl x) e = let f = x.below in let bn = h.after_numbers in let r = h.references in let br = h.after_references in absurd (omega arith)
+      apart j (inr (inl x)) e = let f = x.below in let br = h.after_references in absurd (omega arith)
       apart j (inr (inr x)) e = let f = x.from in absurd (omega arith)
 
   stepped : (t : Ty) → IsPayload t → Inside s (t ∷ ts) a b c → Stepped t s ts a b c
   stepped core.int is h = number_stepped core.int refl h
   stepped core.bool is h =
-      let r = number_stepped core.bool refl (record { numbers = h.numbers; behind_numbers = h.behind_numbers; references = h.references; behind_references = h.behind_references; owners = h.owners }) in
+      let r = number_stepped core.bool refl (record { numbers = h.numbers; after_numbers = h.after_numbers; references = h.references; after_references = h.after_references; owners = h.owners }) in
       record { here = r.here; rest = r.rest; wider = r.wider; apart = r.apart }
   stepped (core.guarded k t args) is h = reference_stepped k t args h
   stepped (core.owning states t args) is h = owner_stepped states t args h
@@ -105,14 +105,14 @@ pub positions_lie : (ts : List Ty) (s : Starts) (a b c : ℕ) → Each IsPayload
 positions_lie [] s a b c is h = tt
 positions_lie (t ∷ ts) s a b c is h =
     let x = stepped s ts a b c t is.0 h in
-    (x.here, each_map (Lies (behind_start (payload_sort t) s) a b c) (Lies s a b c) (payload_positions (behind_start (payload_sort t) s) ts) x.wider (positions_lie ts (behind_start (payload_sort t) s) a b c is.1 x.rest))
+    (x.here, each_map (Lies (after_start (payload_sort t) s) a b c) (Lies s a b c) (payload_positions (after_start (payload_sort t) s) ts) x.wider (positions_lie ts (after_start (payload_sort t) s) a b c is.1 x.rest))
 
 pub positions_differ : (ts : List Ty) (s : Starts) (a b c : ℕ) → Each IsPayload ts → Inside s ts a b c → AllDiffer (payload_positions s ts)
 positions_differ [] s a b c is h = tt
 positions_differ (t ∷ ts) s a b c is h =
     let x = stepped s ts a b c t is.0 h in (
-      each_map (Lies (behind_start (payload_sort t) s) a b c) (λ i. start_of (payload_sort t) s ≢ i) (payload_positions (behind_start (payload_sort t) s) ts) x.apart (positions_lie ts (behind_start (payload_sort t) s) a b c is.1 x.rest),
-      positions_differ ts (behind_start (payload_sort t) s) a b c is.1 x.rest,
+      each_map (Lies (after_start (payload_sort t) s) a b c) (λ i. start_of (payload_sort t) s ≢ i) (payload_positions (after_start (payload_sort t) s) ts) x.apart (positions_lie ts (after_start (payload_sort t) s) a b c is.1 x.rest),
+      positions_differ ts (after_start (payload_sort t) s) a b c is.1 x.rest,
     )
 
 -- ---- slots

@@ -28,9 +28,9 @@ use Rattle.c_syntax.specs.C.{Stmt}
 use Rattle.c_meaning.specs.World as cw
 use Rattle.c_meaning.specs.Run as crun
 use Rattle.c_meaning.specs.Run.{goes, does_stmts, count_in}
-use Rattle.c_lower.specs.Slots.{Sort, of_number, of_reference, of_owner, Numbers, first_temps, past, variant_sorts, var_at, vars_at, Starts, variant_starts, payload_positions, payload_sort, behind_start}
+use Rattle.c_lower.specs.Slots.{Sort, of_number, of_reference, of_owner, Numbers, first_temps, past, variant_sorts, var_at, vars_at, Starts, variant_starts, payload_positions, payload_sort, after_start}
 use Rattle.c_lower.specs.Expressions.{variable}
-use Rattle.c_lower.specs.Statements.{runtime_call, case_positions, payload_in, behind_first, return_stmts}
+use Rattle.c_lower.specs.Statements.{runtime_call, case_positions, payload_in, after_first, return_stmts}
 use Rattle.c_lower.specs.Glue.{per_case, slot_at, payloads, case_keys_back, key_in, key_slot, variant_code}
 use Rattle.c_lower.specs.Glue as glue
 use Rattle.c_lower_worlds.specs.Operators.Codes.{AreAlike, IsBelow}
@@ -104,7 +104,7 @@ given_payloads p (core.owning_variant u args ∷ ts) h = absurd h.0
 
 positions_long : (ts : List Ty) (s : Starts) → length (payload_positions s ts) ≡ length ts
 positions_long [] s = refl
-positions_long (t ∷ ts) s = ap suc (positions_long ts (behind_start (payload_sort t) s))
+positions_long (t ∷ ts) s = ap suc (positions_long ts (after_start (payload_sort t) s))
 
 map_long : {A B : Type 0} (go : A → B) (xs : List A) → length (map go xs) ≡ length xs
 map_long go [] = refl
@@ -191,7 +191,7 @@ says_case p gf t others given mid us x e = by (natural (λ c. nat_lt c (length (
 record HasSlot (slots : List CVar) (j : ℕ) : Type 0 where
   slot : CVar
   at : slice_get slots j ≡ Some slot
-  behind : 1 ≤ j
+  following : 1 ≤ j
 
 slot_there : (slots : List CVar) (j : ℕ) → j < length slots → (v : CVar) × (slice_get slots j ≡ Some v)
 slot_there [] j l = absurd (omega arith)
@@ -327,7 +327,7 @@ module _ (p : Program) (R : crun.Setup) (cm : crun.Meaning) (enough : RegistersS
       long = vars_long temps (variant_sorts p t) ∙ sorts_long p t
 
       has_slot : (j : ℕ) → 1 ≤ j → j < length slots → HasSlot slots j
-      has_slot j l m = let q = slot_there slots j m in record { slot = q.0; at = q.1; behind = l }
+      has_slot j l m = let q = slot_there slots j m in record { slot = q.0; at = q.1; following = l }
 
       lies : (j : ℕ) → Lies (variant_starts p t) (numbers p t c d at) (references p t c d at) (owners p t c d at) j → HasSlot slots j
       lies j (inl x) = let a = x.from in let b = x.below in let l = long in has_slot j (omega arith) (omega arith)
@@ -347,7 +347,7 @@ module _ (p : Program) (R : crun.Setup) (cm : crun.Meaning) (enough : RegistersS
   case_apart : (c : ℕ) (d : CaseDecl) → slice_get (cases_of p t) c ≡ Some d → Each (Apart v) (slots_of_case c)
   case_apart c d at =
       others_there slots (case_positions p t c) 0 v (slots_apart temps (variant_sorts p t)) refl (positions_there c d at)
-      (each_map (HasSlot slots) (λ j. 0 ≢ j) (case_positions p t c) (λ j h e. let l = h.behind in absurd (omega arith)) (positions_there c d at))
+      (each_map (HasSlot slots) (λ j. 0 ≢ j) (case_positions p t c) (λ j h e. let l = h.following in absurd (omega arith)) (positions_there c d at))
 
   to_is : (c : ℕ) (d : CaseDecl) (states : List ℕ) (pieces : List Piece) → slice_get (cases_of p t) c ≡ Some d →
       to_frame (case_with c states pieces) ≡ reading.with_pieces R cm (payloads p t slots (c, d)) pieces (crun.with_var v (cw.number (pos c)) cleared)
@@ -540,8 +540,8 @@ module _ (p : Program) (R : crun.Setup) (cm : crun.Meaning) (enough : RegistersS
           let g = finish_variant b e c h.parts ns h.to w h.w2 regs
           (record { case = c; decl = d; parts = h.parts; keys = ns; is = refl; declared = says.at; shape = h.shapes; bare = λ none. bare_objects (result_is b e) c d says.states says.pieces says.at none }) (
             number,
-            have_places slots (case_positions p t c) h.parts h.to (behind_first (variant_sorts p t)) (behind_first slots) 1 (placed slots (case_positions p t c) h.parts h.to h.stand)
-                (vars_long (past temps of_number) (behind_first (variant_sorts p t))) (λ m u q. slot_is slots (1 + m) u (next m u q)) (λ m u st q r out. free h m u st q r out),
+            have_places slots (case_positions p t c) h.parts h.to (after_first (variant_sorts p t)) (after_first slots) 1 (placed slots (case_positions p t c) h.parts h.to h.stand)
+                (vars_long (past temps of_number) (after_first (variant_sorts p t))) (λ m u q. slot_is slots (1 + m) u (next m u q)) (λ m u st q r out. free h m u st q r out),
           )
           are h.shaped h.later h.fuel h.fed (i + count_in (stmts_made objects)) in
           inr (record {
@@ -568,10 +568,10 @@ module _ (p : Program) (R : crun.Setup) (cm : crun.Meaning) (enough : RegistersS
           one : (m : ℕ) → 1 + m ≡ suc m
           one m = omega arith
 
-          next : (m : ℕ) (u : CVar) → slice_get (behind_first slots) m ≡ Some u → slice_get slots (1 + m) ≡ Some u
+          next : (m : ℕ) (u : CVar) → slice_get (after_first slots) m ≡ Some u → slice_get slots (1 + m) ≡ Some u
           next m u q = ap (slice_get slots) (one m) ∙ q
 
-          free : (h : AllMade p R cm regs vs d.payload says.pieces f w) (m : ℕ) (u : CVar) (st : Sort) → slice_get (behind_first slots) m ≡ Some u → slice_get (behind_first (variant_sorts p t)) m ≡ Some st →
+          free : (h : AllMade p R cm regs vs d.payload says.pieces f w) (m : ℕ) (u : CVar) (st : Sort) → slice_get (after_first slots) m ≡ Some u → slice_get (after_first (variant_sorts p t)) m ≡ Some st →
               has (case_positions p t c) (1 + m) ≡ false → h.to.vars u ≡ Some (unused st)
           free h m u st q r out =
               let apart = others_there slots (case_positions p t c) (1 + m) u (slots_apart temps (variant_sorts p t)) (next m u q) (positions_there c d says.at) (not_in (case_positions p t c) (1 + m) out) in

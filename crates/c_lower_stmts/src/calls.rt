@@ -9,7 +9,7 @@ ghost use Rattle.c_syntax.specs.View.{arg_of, call_of, stmt_of};
 ghost use Rattle.c_syntax.specs.declared.program.CPrim.TheVariants.{GetN, GetP};
 ghost use Rattle.c_lower.specs.Slots.{slot_vars};
 ghost use Rattle.c_lower.specs.Expressions.{atom_arg};
-ghost use Rattle.c_lower.specs.Statements.{behind_first, call_code, call_stmts, count_arg, is_variant, results, runtime_value};
+ghost use Rattle.c_lower.specs.Statements.{after_first, call_code, call_stmts, count_arg, is_variant, results, runtime_value};
 ghost use Rattle.c_lower_exprs.specs.Tables.{numbers_of, slot_view};
 ghost use Rattle.c_lower_exprs.specs.Scopes.{IsScope, func_in, program_in};
 ghost use Rattle.c_lower_exprs.specs.Coded.{atom_of};
@@ -141,7 +141,7 @@ fn get_results(
     requires { IsScope scope.now }
     ensures { OnOk result (map stmt_of out.new ≡ map stmt_of out.old
         ++ (if is_variant (var_type (func_in scope.now) v.0)
-        then results (behind_first (slot_vars (program_in scope.now) (func_in scope.now) v.0))
+        then results (after_first (slot_vars (program_in scope.now) (func_in scope.now) v.0))
         else [])) }
 {
     let is_variant = is_variant_var(scope, v);

@@ -9,7 +9,6 @@ ghost use Rattle.c_lower.specs.Slots.{cells_at, vars_at};
 ghost use Rattle.c_lower.specs.Statements.{open_fields, open_slots, owning_positions, swap_slot, swap_slots};
 ghost use Rattle.c_lower_exprs.specs.Tables.{numbers_of, slot_view, sort_of};
 ghost use Rattle.c_lower_exprs.specs.Scopes.{IsScope, func_in, program_in};
-ghost use Rattle.c_lower_exprs.specs.Coded.{atom_of};
 ghost use Rattle.c_lower_stmts.specs.Written.{exchanged, opened};
 
 use crate::copies::put_atom;

@@ -1,6 +1,6 @@
 //! Statements without blocks.
 
-ghost use Rattle.std.specs.Prelude.{◌≡◌, ◌++◌, [], ◌∷◌, map, Bool, true, if◌then◌else◌, IfOk};
+ghost use Rattle.std.specs.Prelude.{◌≡◌, ◌++◌, [], ◌∷◌, map, true, if◌then◌else◌, IfOk};
 ghost use Rattle.vlt_core.specs.View as view;
 ghost use Rattle.c_syntax.specs.C as c;
 ghost use Rattle.c_syntax.specs.View.{stmt_of};

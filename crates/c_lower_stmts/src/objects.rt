@@ -1,15 +1,14 @@
 //! New objects, and owners that go in and out of them.
 
-ghost use Rattle.std.specs.Prelude.{◌≡◌, ◌++◌, [], ◌∷◌, map, pos, if◌then◌else◌, IfOk, OnOk};
-ghost use Rattle.vlt_core.specs.View.{operand_of};
+ghost use Rattle.std.specs.Prelude.{◌≡◌, ◌++◌, [], ◌∷◌, map, if◌then◌else◌, IfOk, OnOk};
 ghost use Rattle.c_syntax.specs.C as c;
 ghost use Rattle.c_syntax.specs.View.{stmt_of};
 ghost use Rattle.c_syntax.specs.declared.program.CPrim.TheVariants.{New};
 ghost use Rattle.c_lower.specs.Slots as s;
 ghost use Rattle.c_lower.specs.Expressions as e;
-ghost use Rattle.c_lower.specs.Statements.{count_arg, field_puts, make_code, owner_atoms, owner_atoms_in, owner_slots, runtime_call, runtime_value};
+ghost use Rattle.c_lower.specs.Statements.{count_arg, field_puts, owner_atoms, owner_atoms_in, owner_slots, runtime_value};
 ghost use Rattle.c_lower_exprs.specs.Tables.{slot_view, sort_of};
-ghost use Rattle.c_lower_exprs.specs.Scopes.{IsScope, func_in, program_in};
+ghost use Rattle.c_lower_exprs.specs.Scopes.{IsScope, program_in};
 ghost use Rattle.c_lower_exprs.specs.Coded.{atom_of};
 ghost use Rattle.c_lower_stmts.specs.Written.{owned_by, released};
 

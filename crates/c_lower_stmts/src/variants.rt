@@ -5,9 +5,8 @@ ghost use Rattle.vlt_core.specs.Core as core;
 ghost use Rattle.c_syntax.specs.View.{stmt_of};
 ghost use Rattle.c_lower.specs.Slots as s;
 ghost use Rattle.c_lower.specs.Expressions.{first_atom};
-ghost use Rattle.c_lower.specs.Statements.{atom_for, behind_first, build_slots, open_slots, swap_slot, swap_slots};
-ghost use Rattle.c_lower_exprs.specs.Tables.{numbers_of, slot_view, sort_of};
-ghost use Rattle.c_lower_exprs.specs.Scopes.{IsScope, func_in, program_in};
+ghost use Rattle.c_lower.specs.Statements.{atom_for, build_slots};
+ghost use Rattle.c_lower_exprs.specs.Tables.{slot_view, sort_of};
 ghost use Rattle.c_lower_exprs.specs.Coded.{atom_of};
 
 use c_lower_exprs::{Atom, Slot, Sort, set_atom};

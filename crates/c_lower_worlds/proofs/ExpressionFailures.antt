@@ -29,7 +29,7 @@ use Rattle.c_lower_worlds.specs.Shapes.{types_of}
 use Rattle.c_lower_worlds.specs.Same.{Same}
 use Rattle.c_lower_worlds.specs.SameStatements.{Begins}
 use Rattle.c_lower_worlds.proofs.StatementLists.{both_run, then_goes, then_stops}
-use Rattle.c_lower_worlds.proofs.OfNaming.FoundObjects.{OnlyFaults, or_faults, behind_faults}
+use Rattle.c_lower_worlds.proofs.OfNaming.FoundObjects.{OnlyFaults, or_faults, after_faults}
 use Rattle.c_lower_worlds.proofs.FrameChanges.{stands_alike}
 
 -- in a trap or a fault
@@ -106,7 +106,7 @@ value_plainly p f (core.number z) s os = tt
 value_plainly p f (core.truth b) s os = tt
 value_plainly p f (core.var v) s os = faults_plainly (or_fault source.no_value (s.vars v)) (or_faults source.no_value (s.vars v))
 value_plainly p f (core.field x i) s os =
-    then_plainly (values.touchable p f x i s os) _ (faults_plainly (values.touchable p f x i s os) (behind_faults (reference_of f x) (guarded_of f x) x (λ r. permitted_in p r.type i) s os))
+    then_plainly (values.touchable p f x i s os) _ (faults_plainly (values.touchable p f x i s os) (after_faults (reference_of f x) (guarded_of f x) x (λ r. permitted_in p r.type i) s os))
     (λ m. faults_plainly (or_fault source.missing (slice_get m.object.cells i)) (or_faults source.missing (slice_get m.object.cells i)))
 value_plainly p f (core.unary o a) s os =
     then_plainly (values.value_of p f a s os) _ (value_plainly p f a s os)

@@ -25,7 +25,7 @@ use Rattle.c_lower_worlds.specs.SameStatements.{Begins}
 use Rattle.vlt_core.specs.Proper.{has_literals}
 use Rattle.c_lower_worlds.proofs.SameLayouts.{same_laid, keys_laid}
 use Rattle.c_lower_worlds.proofs.NumberCode.{in_range, then_is, touched}
-use Rattle.c_lower_worlds.proofs.OfNaming.FoundObjects.{then_ok, ok_same, err_ok, or_fault_ok, behind_ok}
+use Rattle.c_lower_worlds.proofs.OfNaming.FoundObjects.{then_ok, ok_same, err_ok, or_fault_ok, after_ok}
 use Rattle.c_lower_worlds.proofs.OfNaming.RuleFacts.{both_empty}
 use Rattle.vlt_core_laws.proofs.Unbroken.{unless_holds}
 use Rattle.vlt_core_laws.proofs.Ids.{and_right}
@@ -75,7 +75,7 @@ module _ (p : Program) (f : Func) (ids : Ids) (s : source.Frame) (w : source.Wor
       record { ty = t.ty; known = ap unless_owning t.declared ∙ ap (λ b. if b then None else Some t.ty) plain; shape = t.shape }
   valued (core.field x i) a l broken e =
       let b = then_ok (values.touchable p f x i s w.objects) (λ m. or_fault source.missing (slice_get m.object.cells i)) a e in
-      let t = touched p f s w frame g k h x i b.found a (behind_ok (reference_of f x) (guarded_of f x) x (λ r. permitted_in p r.type i) s w.objects b.found b.first)
+      let t = touched p f s w frame g k h x i b.found a (after_ok (reference_of f x) (guarded_of f x) x (λ r. permitted_in p r.type i) s w.objects b.found b.first)
       (or_fault_ok source.missing (slice_get b.found.object.cells i) a b.second) in
       let type_is : field_type p f x i ≡ Some (with_keys t.object.0 t.decl.ty) =
       ap (λ o. field_type_in o (field_decl p o i)) t.object.1 ∙ ap (field_type_in (Some (object_type f x, t.object.0))) t.at in

@@ -35,7 +35,7 @@ use Rattle.c_lower_worlds.specs.Parts.{NumbersAreRight}
 use Rattle.c_lower_worlds.proofs.BlockChanges.{block_there}
 use Rattle.c_lower_worlds.proofs.FieldCells.{HaveCells, of_field}
 use Rattle.c_lower_worlds.proofs.VariableSlots.{starts}
-use Rattle.c_lower_worlds.proofs.OfNaming.FoundObjects.{then_ok, ok_same, err_ok, or_fault_ok, behind_ok, Refers}
+use Rattle.c_lower_worlds.proofs.OfNaming.FoundObjects.{then_ok, ok_same, err_ok, or_fault_ok, after_ok, Refers}
 use Rattle.vlt_core_laws.proofs.Ids.{and_left, and_right}
 use Rattle.c_lower_worlds.proofs.VariableValues.{slot_holds, typed, part_same, object_same}
 use Rattle.c_lower_worlds.proofs.WordRanges.{word_results}
@@ -161,7 +161,7 @@ module _ (p : Program) (f : Func) (s : source.Frame) (w : source.World) (frame :
       let a = then_ok (values.value_of p f (core.field x i) s w.objects) values.number_in z e in
       let b = then_ok (values.touchable p f x i s w.objects) (λ m. or_fault source.missing (slice_get m.object.cells i)) a.found a.first in
       let is_z = number_is a.found z a.second in
-      let t = touched x i b.found (one (source.number z)) (behind_ok (reference_of f x) (guarded_of f x) x (λ r. permitted_in p r.type i) s w.objects b.found b.first)
+      let t = touched x i b.found (one (source.number z)) (after_ok (reference_of f x) (guarded_of f x) x (λ r. permitted_in p r.type i) s w.objects b.found b.first)
       (or_fault_ok source.missing (slice_get b.found.object.cells i) a.found b.second ∙ ap (λ a. Some a) is_z) in
       let o = of_number_is p (types_of w.objects) t.decl.ty z t.shape in
       let sorts : sorts_at p (object_type f x) i ≡ of_number ∷ [] = ap (λ d. sorts_of_field p d) t.at ∙ o.sorts in
@@ -285,7 +285,7 @@ module _ (p : Program) (f : Func) (s : source.Frame) (w : source.World) (frame :
   in_range (core.field x i) l z e =
       let a = then_ok (values.value_of p f (core.field x i) s w.objects) values.number_in z e in
       let b = then_ok (values.touchable p f x i s w.objects) (λ m. or_fault source.missing (slice_get m.object.cells i)) a.found a.first in
-      let t = touched p f s w frame g k h x i b.found (one (source.number z)) (behind_ok (reference_of f x) (guarded_of f x) x (λ r. permitted_in p r.type i) s w.objects b.found b.first)
+      let t = touched p f s w frame g k h x i b.found (one (source.number z)) (after_ok (reference_of f x) (guarded_of f x) x (λ r. permitted_in p r.type i) s w.objects b.found b.first)
       (or_fault_ok source.missing (slice_get b.found.object.cells i) a.found b.second ∙ ap (λ a. Some a) (number_is a.found z a.second)) in
       (of_number_is p (types_of w.objects) t.decl.ty z t.shape).range
   in_range (core.unary o a) l z e =

@@ -42,7 +42,7 @@ use Rattle.c_lower_worlds.specs.SameStatements.{Begins}
 use Rattle.c_lower_worlds.specs.Naming.Functions.{IsFunction}
 use Rattle.c_lower_worlds.specs.Operands.{HaveAtoms, AreVariables, IsHanded, OperandsAreRight}
 use Rattle.c_lower_worlds.specs.Same.{Same}
-use Rattle.c_lower_worlds.proofs.OfNaming.FoundObjects.{IsFree, OnlyFaults, then_ok, or_faults, or_fault_ok, behind_ok, behind_faults, object_of_ok, object_of_faults, then_faults}
+use Rattle.c_lower_worlds.proofs.OfNaming.FoundObjects.{IsFree, OnlyFaults, then_ok, or_faults, or_fault_ok, after_ok, after_faults, object_of_ok, object_of_faults, then_faults}
 use Rattle.c_lower_worlds.proofs.BlockChanges.{held_alike}
 use Rattle.c_lower_worlds.proofs.ValueCode.{Comes, slots_have, var_comes, field_comes, number_comes, one_atom, unless_is, var_has}
 use Rattle.c_lower_worlds.proofs.SameLayouts.{same_laid, fits_laid, keys_laid}
@@ -196,7 +196,7 @@ module _ (p : Program) (R : crun.Setup) (cm : crun.Meaning) where
         }
     coded (core.field x i) t a proper broken up e v =
         let b = then_ok (values.touchable p f x i s w.objects) (λ m. or_fault source.missing (slice_get m.object.cells i)) a e in
-        let refers = behind_ok (reference_of f x) (guarded_of f x) x (λ r. permitted_in p r.type i) s w.objects b.found b.first in
+        let refers = after_ok (reference_of f x) (guarded_of f x) x (λ r. permitted_in p r.type i) s w.objects b.found b.first in
         let touch = touched p f s w frame g k h x i b.found a refers (or_fault_ok source.missing (slice_get b.found.object.cells i) a b.second) in
         let q = typed p (types_of w.objects) f s frame x (one (source.reference b.found.number)) h.stands refers.var in
         let type_is : field_type p f x i ≡ Some (with_keys touch.object.0 touch.decl.ty) =
@@ -232,7 +232,7 @@ module _ (p : Program) (R : crun.Setup) (cm : crun.Meaning) where
     traps (core.field x i) t kind proper broken up e =
         absurd (no_trap (values.value_of p f (core.field x i) s w.objects) kind
         (then_faults (values.touchable p f x i s w.objects) (λ m. or_fault source.missing (slice_get m.object.cells i))
-        (behind_faults (reference_of f x) (guarded_of f x) x (λ r. permitted_in p r.type i) s w.objects) (λ m. or_faults source.missing (slice_get m.object.cells i))) e)
+        (after_faults (reference_of f x) (guarded_of f x) x (λ r. permitted_in p r.type i) s w.objects) (λ m. or_faults source.missing (slice_get m.object.cells i))) e)
     traps (core.unary o b) t kind proper broken up e = operator_traps o (core.unary o b) t kind refl proper broken up e
     traps (core.binary o b c) t kind proper broken up e = operator_traps o (core.binary o b c) t kind refl proper broken up e
 

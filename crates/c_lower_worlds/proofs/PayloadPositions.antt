@@ -7,8 +7,8 @@ use Rattle.vlt_core.specs.Core.{Ty, CaseDecl, Program}
 use Rattle.vlt_core.specs.Lookups.{is_owning, case_at}
 use Rattle.vlt_core.specs.Widths.{is_number, is_guarded, most_of}
 use Rattle.vlt_meaning.specs.World.{Part}
-use Rattle.c_lower.specs.Slots.{Sort, of_number, of_reference, of_owner, Starts, start_of, behind_start, payload_sort, payload_positions, variant_starts, variant_sorts}
-use Rattle.c_lower.specs.Statements.{case_positions, payload_in, behind_first}
+use Rattle.c_lower.specs.Slots.{Sort, of_number, of_reference, of_owner, Starts, start_of, after_start, payload_sort, payload_positions, variant_starts, variant_sorts}
+use Rattle.c_lower.specs.Statements.{case_positions, payload_in, after_first}
 use Rattle.c_lower_worlds.specs.Worlds.{c_part, case_value, case_values, variant_values}
 use Rattle.c_lower_worlds.specs.Shapes.{HavePayloadShapes}
 use Rattle.c_lower_worlds.proofs.VariantSlots.{Inside, IsNext, next_is, inside, numbers, references, owners, length_replicate}
@@ -29,7 +29,7 @@ first_within types t x s ts a b c h n = by (payload_sort t) n.here
     by of_reference z = let k = z.below in inr (inl (record { from = omega arith; below = k }))
     by of_owner z = let k = z.below in inr (inr (record { from = omega arith; below = k }))
 
-wider : (u : Sort) (s : Starts) (a b c i : ℕ) → IsWithin (behind_start u s) a b c i → IsWithin s a b c i
+wider : (u : Sort) (s : Starts) (a b c i : ℕ) → IsWithin (after_start u s) a b c i → IsWithin s a b c i
 wider of_number s a b c i (inl h) = let k = h.from in inl (record { from = omega arith; below = h.below })
 wider of_number s a b c i (inr (inl h)) = inr (inl h)
 wider of_number s a b c i (inr (inr h)) = inr (inr h)
@@ -44,7 +44,7 @@ not_equal : (i j : ℕ) → i ≢ j → (i == j) ≡ false
 not_equal i j h = grind (arith, nat_tests)
 
 -- what comes later isn't the first
-later_apart : (u : Sort) (s : Starts) (ts : List Ty) (a b c i : ℕ) → Rattle.c_lower_worlds.proofs.VariantSlots.Zone u a b c (start_of u s) → a ≤ s.reference → b ≤ s.owner → a ≤ b → IsWithin (behind_start u s) a b c i → (i == start_of u s) ≡ false
+later_apart : (u : Sort) (s : Starts) (ts : List Ty) (a b c i : ℕ) → Rattle.c_lower_worlds.proofs.VariantSlots.Zone u a b c (start_of u s) → a ≤ s.reference → b ≤ s.owner → a ≤ b → IsWithin (after_start u s) a b c i → (i == start_of u s) ≡ false
 later_apart of_number s ts a b c i z l m o (inl h) = let k = h.from in not_equal i s.number (λ e. omega arith)
 later_apart of_number s ts a b c i z l m o (inr (inl h)) = let k = h.from in not_equal i s.number (λ e. omega arith)
 later_apart of_number s ts a b c i z l m o (inr (inr h)) = let k = h.from in not_equal i s.number (λ e. omega arith)
@@ -70,15 +70,15 @@ stands_at types (t ∷ ts) (y ∷ parts) s a b c o h shapes zero i x at part =
     subst (λ i. StandsAt s (t ∷ ts) a b c (y ∷ parts) i x) e
     (record {
       within = first_within types t y s ts a b c h (next_is types t y s ts a b c h shapes.0);
-      value = λ u. ap (λ d. if d then c_part y else case_value u (start_of (payload_sort t) s) (payload_positions (behind_start (payload_sort t) s) ts) parts) (eq-eqb (start_of (payload_sort t) s) (start_of (payload_sort t) s) refl) ∙ ap c_part q;
+      value = λ u. ap (λ d. if d then c_part y else case_value u (start_of (payload_sort t) s) (payload_positions (after_start (payload_sort t) s) ts) parts) (eq-eqb (start_of (payload_sort t) s) (start_of (payload_sort t) s) refl) ∙ ap c_part q;
     })
 stands_at types (t ∷ ts) (y ∷ parts) s a b c o h shapes (suc j) i x at part =
     let n = next_is types t y s ts a b c h shapes.0 in
-    let r = stands_at types ts parts (behind_start (payload_sort t) s) a b c o n.rest shapes.1 j i x at part in
+    let r = stands_at types ts parts (after_start (payload_sort t) s) a b c o n.rest shapes.1 j i x at part in
     record {
       within = wider (payload_sort t) s a b c i r.within;
-      value = λ u. ap (λ d. if d then c_part y else case_value u i (payload_positions (behind_start (payload_sort t) s) ts) parts)
-          (later_apart (payload_sort t) s ts a b c i n.here h.behind_numbers h.behind_references o r.within) ∙ r.value u;
+      value = λ u. ap (λ d. if d then c_part y else case_value u i (payload_positions (after_start (payload_sort t) s) ts) parts)
+          (later_apart (payload_sort t) s ts a b c i n.here h.after_numbers h.after_references o r.within) ∙ r.value u;
     }
 
 -- the values of slots, by their positions
@@ -105,7 +105,7 @@ payload_at p t k d types parts declared shapes j i x at part =
     where_it : slice_get (payload_positions (variant_starts p t) d.payload) j ≡ Some i → StandsAt (variant_starts p t) d.payload (numbers p t k d declared) (references p t k d declared) (owners p t k d declared) parts i x
     where_it at = stands_at types d.payload parts (variant_starts p t) (numbers p t k d declared) (references p t k d declared) (owners p t k d declared) (omega arith) ins shapes j i x at part
 
-    long : length (behind_first (variant_sorts p t)) ≡ most_of is_number p t + most_of is_guarded p t + most_of is_owning p t
+    long : length (after_first (variant_sorts p t)) ≡ most_of is_number p t + most_of is_guarded p t + most_of is_owning p t
     long = length-append (replicate (most_of is_number p t) of_number ++ replicate (most_of is_guarded p t) of_reference) (replicate (most_of is_owning p t) of_owner)
         ∙ ap (λ n. n + length (replicate (most_of is_owning p t) of_owner)) (length-append (replicate (most_of is_number p t) of_number) (replicate (most_of is_guarded p t) of_reference))
         ∙ ap (λ n. n + length (replicate (most_of is_guarded p t) of_reference) + length (replicate (most_of is_owning p t) of_owner)) (length_replicate (most_of is_number p t) of_number)
@@ -129,7 +129,7 @@ payload_at p t k d types parts declared shapes j i x at part =
     by i at go =
         let q = go at in
         let m = some_position i q.within in
-        let v = value_at 1 m.0 (case_positions p t k) parts (behind_first (variant_sorts p t)) (subst (λ n. m.0 < n) (sym long) m.2) in
+        let v = value_at 1 m.0 (case_positions p t k) parts (after_first (variant_sorts p t)) (subst (λ n. m.0 < n) (sym long) m.2) in
         ap (slice_get (variant_values p t k parts)) m.1 ∙ v.1
         ∙ ap (λ js. Some (case_value v.0 (1 + m.0) js parts)) (ap (λ o. payload_positions (variant_starts p t) (payload_in o)) declared)
         ∙ ap (λ n. Some (case_value v.0 n (payload_positions (variant_starts p t) d.payload) parts)) (one m.0 ∙ sym m.1)

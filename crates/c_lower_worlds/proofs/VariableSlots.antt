@@ -96,8 +96,8 @@ slots_apart t (s ∷ ss) = (
 abbrev pub starts : Program → Func → (v : ℕ) → Numbers
 starts p f v = past_all first_numbers (var_sorts p (take v f.vars))
 
-abbrev pub behind : Program → Func → (v : ℕ) → Numbers
-behind p f v = past_all (starts p f v) (sorts_of p (var_type f v))
+abbrev pub following : Program → Func → (v : ℕ) → Numbers
+following p f v = past_all (starts p f v) (sorts_of p (var_type f v))
 
 up_to_later : (p : Program) (ds : List VarDecl) (v w : ℕ) (t : Numbers) → v < w →
     AreUpTo (past_all (past_all t (var_sorts p (take v ds))) (sorts_of p (option_map (λ d. d.ty) (slice_get ds v)))) (past_all t (var_sorts p (take w ds)))
@@ -125,16 +125,16 @@ up_to_temps p (d ∷ ds) (suc v) t =
 -- the slots of a variable lie below the first temps
 pub below_temps : (p : Program) (f : Func) (v : ℕ) → Each (IsBelow (first_temps p f)) (slot_vars p f v)
 below_temps p f v =
-    each_map (IsBetween (starts p f v) (behind p f v)) (IsBelow (first_temps p f)) (slot_vars p f v)
-    (λ u b. (between_wider (starts p f v) (starts p f v) (behind p f v) (first_temps p f) (up_self (starts p f v)) (up_to_temps p f.vars v first_numbers) u b).below)
+    each_map (IsBetween (starts p f v) (following p f v)) (IsBelow (first_temps p f)) (slot_vars p f v)
+    (λ u b. (between_wider (starts p f v) (starts p f v) (following p f v) (first_temps p f) (up_self (starts p f v)) (up_to_temps p f.vars v first_numbers) u b).below)
     (slots_between (starts p f v) (sorts_of p (var_type f v)))
 
 -- and those of two variables are apart
 pub vars_apart : (p : Program) (f : Func) (v w : ℕ) → v < w → Each (λ u. Each (Apart u) (slot_vars p f w)) (slot_vars p f v)
 vars_apart p f v w l =
-    each_map (IsBetween (starts p f v) (behind p f v)) (λ u. Each (Apart u) (slot_vars p f w)) (slot_vars p f v)
-    (λ u b. each_map (IsBetween (starts p f w) (behind p f w)) (Apart u) (slot_vars p f w)
-    (λ x c. between_apart (starts p f v) (behind p f v) (starts p f w) (behind p f w) u x (up_to_later p f.vars v w first_numbers l) b c)
+    each_map (IsBetween (starts p f v) (following p f v)) (λ u. Each (Apart u) (slot_vars p f w)) (slot_vars p f v)
+    (λ u b. each_map (IsBetween (starts p f w) (following p f w)) (Apart u) (slot_vars p f w)
+    (λ x c. between_apart (starts p f v) (following p f v) (starts p f w) (following p f w) u x (up_to_later p f.vars v w first_numbers l) b c)
     (slots_between (starts p f w) (sorts_of p (var_type f w))))
     (slots_between (starts p f v) (sorts_of p (var_type f v)))
 

@@ -14,7 +14,7 @@ use Rattle.vlt_core.specs.Widths.{greatest, is_number, is_guarded, most_of}
 use Rattle.vlt_meaning.specs.World.{Part, objects_in_part}
 use Rattle.vlt_meaning.specs.World as source
 use Rattle.c_meaning.specs.World.{Value, reference}
-use Rattle.c_lower.specs.Slots.{Sort, of_number, of_reference, of_owner, Starts, start_of, behind_start, payload_sort, payload_positions, variant_starts, variant_sorts, slot_sorts}
+use Rattle.c_lower.specs.Slots.{Sort, of_number, of_reference, of_owner, Starts, start_of, after_start, payload_sort, payload_positions, variant_starts, variant_sorts, slot_sorts}
 use Rattle.c_lower_worlds.specs.Worlds.{c_part, case_value, case_values, unused, slot_values, variant_values}
 use Rattle.c_lower_worlds.specs.Shapes.{HasPayloadShape, HavePayloadShapes, HasShape}
 use Rattle.c_lower_worlds.specs.Sorts.{IsOfSort, AreOfSorts}
@@ -30,9 +30,9 @@ counted_is test ts = is_count_by (counted test) test refl (λ x xs. refl) ts
 -- the payloads that are left take slots below these: numbers, references, owners
 pub record Inside (s : Starts) (ts : List Ty) (a b c : ℕ) : Type 0 where
   pub numbers : s.number + counted is_number ts ≤ a
-  pub behind_numbers : a ≤ s.reference
+  pub after_numbers : a ≤ s.reference
   pub references : s.reference + counted is_guarded ts ≤ b
-  pub behind_references : b ≤ s.owner
+  pub after_references : b ≤ s.owner
   pub owners : s.owner + counted is_owning ts ≤ c
 
 pub record IsMiddle (a b i : ℕ) : Type 0 where
@@ -65,37 +65,37 @@ unused_of_sort of_owner = tt
 pub record IsNext (types : List ℕ) (t : Ty) (part : Part) (s : Starts) (ts : List Ty) (a b c : ℕ) : Type 0 where
   pub here : Zone (payload_sort t) a b c (start_of (payload_sort t) s)
   pub kind : IsOfSort (payload_sort t) (c_part part)
-  pub rest : Inside (behind_start (payload_sort t) s) ts a b c
+  pub rest : Inside (after_start (payload_sort t) s) ts a b c
 
 pub next_is : (types : List ℕ) (t : Ty) (part : Part) (s : Starts) (ts : List Ty) (a b c : ℕ) → Inside s (t ∷ ts) a b c → HasPayloadShape types t part →
     IsNext types t part s ts a b c
 next_is types core.int part s ts a b c h shape =
-    let n = h.numbers in let bn = h.behind_numbers in let r = h.references in let br = h.behind_references in let o = h.owners in
+    let n = h.numbers in let bn = h.after_numbers in let r = h.references in let br = h.after_references in let o = h.owners in
     record {
       here = omega arith;
       kind = subst (λ x. IsOfSort of_number (c_part x)) (sym shape.is) tt;
-      rest = record { numbers = omega arith; behind_numbers = bn; references = r; behind_references = br; owners = o };
+      rest = record { numbers = omega arith; after_numbers = bn; references = r; after_references = br; owners = o };
     }
 next_is types core.bool part s ts a b c h shape =
-    let n = h.numbers in let bn = h.behind_numbers in let r = h.references in let br = h.behind_references in let o = h.owners in
+    let n = h.numbers in let bn = h.after_numbers in let r = h.references in let br = h.after_references in let o = h.owners in
     record {
       here = omega arith;
       kind = subst (λ x. IsOfSort of_number (c_part x)) (sym shape.is) tt;
-      rest = record { numbers = omega arith; behind_numbers = bn; references = r; behind_references = br; owners = o };
+      rest = record { numbers = omega arith; after_numbers = bn; references = r; after_references = br; owners = o };
     }
 next_is types (core.guarded k t args) part s ts a b c h shape =
-    let n = h.numbers in let bn = h.behind_numbers in let r = h.references in let br = h.behind_references in let o = h.owners in
+    let n = h.numbers in let bn = h.after_numbers in let r = h.references in let br = h.after_references in let o = h.owners in
     record {
       here = record { from = bn; below = omega arith };
       kind = subst (λ x. IsOfSort of_reference (c_part x)) (sym shape.is) tt;
-      rest = record { numbers = n; behind_numbers = omega arith; references = omega arith; behind_references = br; owners = o };
+      rest = record { numbers = n; after_numbers = omega arith; references = omega arith; after_references = br; owners = o };
     }
 next_is types (core.owning states t args) part s ts a b c h shape =
-    let n = h.numbers in let bn = h.behind_numbers in let r = h.references in let br = h.behind_references in let o = h.owners in
+    let n = h.numbers in let bn = h.after_numbers in let r = h.references in let br = h.after_references in let o = h.owners in
     record {
       here = record { from = br; below = omega arith };
       kind = subst (λ x. IsOfSort of_owner (c_part x)) (sym shape.is) tt;
-      rest = record { numbers = n; behind_numbers = bn; references = r; behind_references = omega arith; owners = omega arith };
+      rest = record { numbers = n; after_numbers = bn; references = r; after_references = omega arith; owners = omega arith };
     }
 next_is types (core.tracked k t args) part s ts a b c h shape = absurd shape
 next_is types (core.variant t args) part s ts a b c h shape = absurd shape
@@ -108,14 +108,14 @@ value_of_sort types u i [] [] s a b c l h shapes z = unused_of_sort u
 value_of_sort types u i [] (x ∷ parts) s a b c l h shapes z = absurd shapes
 value_of_sort types u i (t ∷ ts) [] s a b c l h shapes z = absurd shapes
 value_of_sort types u i (t ∷ ts) (x ∷ parts) s a b c l h shapes z =
-    by (value_of_sort types u i ts parts (behind_start (payload_sort t) s) a b c l next.rest shapes.1 z) (i == start_of (payload_sort t) s) refl
+    by (value_of_sort types u i ts parts (after_start (payload_sort t) s) a b c l next.rest shapes.1 z) (i == start_of (payload_sort t) s) refl
   where
     next : IsNext types t x s ts a b c
     next = next_is types t x s ts a b c h shapes.0
 
-    by : IsOfSort u (case_value u i (payload_positions (behind_start (payload_sort t) s) ts) parts) →
+    by : IsOfSort u (case_value u i (payload_positions (after_start (payload_sort t) s) ts) parts) →
         (e : Bool) → (i == start_of (payload_sort t) s) ≡ e →
-        IsOfSort u (if e then c_part x else case_value u i (payload_positions (behind_start (payload_sort t) s) ts) parts)
+        IsOfSort u (if e then c_part x else case_value u i (payload_positions (after_start (payload_sort t) s) ts) parts)
     by later true e =
         zones_apart u (payload_sort t) a b c i (c_part x) l z
         (subst (Zone (payload_sort t) a b c) (sym (eqb-true i (start_of (payload_sort t) s) e)) next.here) next.kind
@@ -198,7 +198,7 @@ module _ (p : Program) (t k : ℕ) (d : CaseDecl) (declared : case_at p t k ≡ 
       let ea = counted_is is_number d.payload in
       let eb = counted_is is_guarded d.payload in
       let ec = counted_is is_owning d.payload in
-      record { numbers = omega arith; behind_numbers = omega arith; references = omega arith; behind_references = omega arith; owners = omega arith }
+      record { numbers = omega arith; after_numbers = omega arith; references = omega arith; after_references = omega arith; owners = omega arith }
 
   -- the values in all slots are of their sorts
   pub variant_of_sorts : (types : List ℕ) (parts : List Part) → HavePayloadShapes types d.payload parts →
@@ -267,30 +267,30 @@ owner_zone types [] (x ∷ parts) s a b c m h shapes l = absurd shapes
 owner_zone types (t ∷ ts) [] s a b c m h shapes l = absurd shapes
 owner_zone types (core.int ∷ ts) (x ∷ parts) s a b c m h shapes l =
     let n = next_is types core.int x s ts a b c h shapes.0 in
-    let below : s.number < s.owner = let q = n.here in let u = h.behind_numbers in let v = h.references in let w = h.behind_references in omega arith in
-    ap (owned_in_slots (replicate m of_owner)) (skipped m s.owner s.number (payload_positions (behind_start of_number s) ts) x parts below)
-    ∙ owner_zone types ts parts (behind_start of_number s) a b c m n.rest shapes.1 l
+    let below : s.number < s.owner = let q = n.here in let u = h.after_numbers in let v = h.references in let w = h.after_references in omega arith in
+    ap (owned_in_slots (replicate m of_owner)) (skipped m s.owner s.number (payload_positions (after_start of_number s) ts) x parts below)
+    ∙ owner_zone types ts parts (after_start of_number s) a b c m n.rest shapes.1 l
     ∙ ap (λ o. o ++ flat_map objects_in_part parts) (sym (ap objects_in_part shapes.0.is))
 owner_zone types (core.bool ∷ ts) (x ∷ parts) s a b c m h shapes l =
     let n = next_is types core.bool x s ts a b c h shapes.0 in
-    let below : s.number < s.owner = let q = n.here in let u = h.behind_numbers in let v = h.references in let w = h.behind_references in omega arith in
-    ap (owned_in_slots (replicate m of_owner)) (skipped m s.owner s.number (payload_positions (behind_start of_number s) ts) x parts below)
-    ∙ owner_zone types ts parts (behind_start of_number s) a b c m n.rest shapes.1 l
+    let below : s.number < s.owner = let q = n.here in let u = h.after_numbers in let v = h.references in let w = h.after_references in omega arith in
+    ap (owned_in_slots (replicate m of_owner)) (skipped m s.owner s.number (payload_positions (after_start of_number s) ts) x parts below)
+    ∙ owner_zone types ts parts (after_start of_number s) a b c m n.rest shapes.1 l
     ∙ ap (λ o. o ++ flat_map objects_in_part parts) (sym (ap objects_in_part shapes.0.is))
 owner_zone types (core.guarded k t args ∷ ts) (x ∷ parts) s a b c m h shapes l =
     let n = next_is types (core.guarded k t args) x s ts a b c h shapes.0 in
-    let below : s.reference < s.owner = let q = n.here.below in let w = h.behind_references in omega arith in
-    ap (owned_in_slots (replicate m of_owner)) (skipped m s.owner s.reference (payload_positions (behind_start of_reference s) ts) x parts below)
-    ∙ owner_zone types ts parts (behind_start of_reference s) a b c m n.rest shapes.1 l
+    let below : s.reference < s.owner = let q = n.here.below in let w = h.after_references in omega arith in
+    ap (owned_in_slots (replicate m of_owner)) (skipped m s.owner s.reference (payload_positions (after_start of_reference s) ts) x parts below)
+    ∙ owner_zone types ts parts (after_start of_reference s) a b c m n.rest shapes.1 l
     ∙ ap (λ o. o ++ flat_map objects_in_part parts) (sym (ap objects_in_part shapes.0.is))
 owner_zone types (core.owning states t args ∷ ts) (x ∷ parts) s a b c zero h shapes l = absurd (omega arith)
 owner_zone types (core.owning states t args ∷ ts) (x ∷ parts) s a b c (suc m) h shapes l =
     let n = next_is types (core.owning states t args) x s ts a b c h shapes.0 in
     let same : (s.owner == s.owner) ≡ true = eq-eqb s.owner s.owner refl in
-    ap (λ b. gone_to (if b then c_part x else case_value of_owner s.owner (payload_positions (behind_start of_owner s) ts) parts)
-    ++ owned_in_slots (replicate m of_owner) (case_values (suc s.owner) (s.owner ∷ payload_positions (behind_start of_owner s) ts) (x ∷ parts) (replicate m of_owner))) same
-    ∙ ap (λ vs. gone_to (c_part x) ++ owned_in_slots (replicate m of_owner) vs) (skipped m (suc s.owner) s.owner (payload_positions (behind_start of_owner s) ts) x parts (omega arith))
-    ∙ ap (λ ns. gone_to (c_part x) ++ ns) (owner_zone types ts parts (behind_start of_owner s) a b c m n.rest shapes.1 (omega arith))
+    ap (λ b. gone_to (if b then c_part x else case_value of_owner s.owner (payload_positions (after_start of_owner s) ts) parts)
+    ++ owned_in_slots (replicate m of_owner) (case_values (suc s.owner) (s.owner ∷ payload_positions (after_start of_owner s) ts) (x ∷ parts) (replicate m of_owner))) same
+    ∙ ap (λ vs. gone_to (c_part x) ++ owned_in_slots (replicate m of_owner) vs) (skipped m (suc s.owner) s.owner (payload_positions (after_start of_owner s) ts) x parts (omega arith))
+    ∙ ap (λ ns. gone_to (c_part x) ++ ns) (owner_zone types ts parts (after_start of_owner s) a b c m n.rest shapes.1 (omega arith))
     ∙ ap (λ ns. ns ++ flat_map objects_in_part parts) (ap (λ x. gone_to (c_part x)) shapes.0.is ∙ sym (ap objects_in_part shapes.0.is))
 owner_zone types (core.tracked k t args ∷ ts) (x ∷ parts) s a b c m h shapes l = absurd shapes.0
 owner_zone types (core.variant t args ∷ ts) (x ∷ parts) s a b c m h shapes l = absurd shapes.0

@@ -10,7 +10,7 @@ use Rattle.c_lower_worlds.specs.Worlds.{Registers, AreRegisters, c_world, c_even
 use Rattle.c_lower_worlds.specs.Given.{IsFed}
 use Rattle.c_lower_worlds.specs.Shapes.{types_of, AreShaped, HasShape}
 use Rattle.c_lower_worlds.specs.Frames.{StandsFor, Spares}
-use Rattle.c_lower.specs.Statements.{is_variant, behind_first}
+use Rattle.c_lower.specs.Statements.{is_variant, after_first}
 
 -- a frame and a world after a step
 pub record Comes (p : Program) (f : Func) (t : Numbers) (fuel : ℕ) (from : run.Frame)
@@ -59,7 +59,7 @@ pub record InRegisters (vs : List cw.Value) (g : Registers) : Type 0 where
   pub references : BeginWith (references_in vs) g.references
 
 abbrev pub rest_values : Option Ty → List cw.Value → List cw.Value
-rest_values ty vs = if is_variant ty then behind_first vs else []
+rest_values ty vs = if is_variant ty then after_first vs else []
 
 pub record IsGiven (p : Program) (types : List ℕ) (ty : Ty) (a : source.Value)
     (value : Option cw.Value) (g : Registers) : Type 0 where

@@ -5,7 +5,7 @@ use Rattle.vlt_core.specs.Core.{Ty, variant, owning_variant, FieldDecl, Program}
 use Rattle.vlt_core.specs.Lookups.{fields_of}
 use Rattle.vlt_meaning.specs.World.{Part, number, reference, owned, Value, one, of_case, Owner, gone, above, is_out, Object, Event, printed, called, World}
 use Rattle.c_lower.specs.Slots.{Sort, of_number, variant_sorts}
-use Rattle.c_lower.specs.Statements.{case_positions, behind_first}
+use Rattle.c_lower.specs.Statements.{case_positions, after_first}
 use Rattle.c_meaning.specs.Blocks.{Block, Blocks}
 use Rattle.c_meaning.specs.World as c
 
@@ -33,7 +33,7 @@ case_values i js parts (s ∷ ss) = case_value s i js parts ∷ case_values (suc
 
 abbrev pub variant_values : Program → (type case : ℕ) → List Part → List c.Value
 variant_values p t k parts =
-    c.number (pos k) ∷ case_values 1 (case_positions p t k) parts (behind_first (variant_sorts p t))
+    c.number (pos k) ∷ case_values 1 (case_positions p t k) parts (after_first (variant_sorts p t))
 
 -- the values in the slots of a value of the type
 abbrev pub slot_values : Program → Ty → Value → List c.Value

@@ -29,7 +29,7 @@ abbrev mutual
   cells_in c.done = 0
   cells_in (c.next x xs) = max (cells_in_stmt x) (cells_in xs)
 
--- ---- the tasks that statements need, those that are left behind them included
+-- ---- the tasks that statements need, those that are left after them included
 
 abbrev mutual
   pub need : Stmts → ℕ

@@ -3,7 +3,6 @@
 ghost use Rattle.std.specs.Prelude.{◌≡◌, ◌<◌, ◌≤◌, ◌↔◌, ◌^◌, ◌+◌, IsTrue, IfSome, map, ℕ};
 ghost use Rattle.vlt_base.specs.Limits.{limit_of};
 ghost use Rattle.c_syntax.specs.View.{stmt_of, stmts_of, call_of, func_of, program_of};
-ghost use Rattle.c_meaning.specs.Run.{count_in, count_in_stmt, count_in_all};
 ghost use Rattle.c_machine.specs.Bounds.{most, width_of, need_of, cells_of, cells_in, cells_in_stmt, cells_in_call, need, inner, slots_needed, tall_of};
 ghost use Rattle.c_machine.specs.Bounds as bounds;
 
@@ -102,7 +101,7 @@ pub fn is_too_wide(p: &CProgram, depth: u32, heap: u32) -> bool
     frames.saturating_add(blocks) > u128::from(limit(13))
 }
 
-/// The tasks that a statement needs, those that are left behind it included; none where they can't be counted.
+/// The tasks that a statement needs, those that are left after it included; none where they can't be counted.
 #[cycle(needs)]
 fn stmt_need(x: &CStmt) -> Option<u64>
     ensures { IfSome result (λ n. n ≡ inner (stmt_of x.now)) }

@@ -1,6 +1,6 @@
 //! Blocks.
 
-ghost use Rattle.std.specs.Prelude.{◌≡◌, ◌≢◌, ◌<◌, ◌≤◌, ◌+◌, ◌*◌, ◌++◌, ◌∷◌, [], ℕ, length, true, false, Some, None, IfOk, IfSome, IfNone, OnErr, slice_get, slice_set, vec_capacity};
+ghost use Rattle.std.specs.Prelude.{◌≡◌, ◌≢◌, ◌<◌, ◌≤◌, ◌+◌, ◌*◌, ◌++◌, ◌∷◌, [], ℕ, length, true, false, Some, None, IfOk, IfSome, IfNone, OnErr};
 ghost use Rattle.vlt_rings.specs.Places.{IsSettled};
 ghost use Rattle.vlt_rings.specs.Things.{Thing, Things, IsAt, IsLiveAt};
 ghost use Rattle.vlt_rings.specs.Things as rings;

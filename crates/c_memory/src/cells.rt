@@ -1,6 +1,6 @@
 //! References, cells, and tables of them.
 
-ghost use Rattle.std.specs.Prelude.{◌≡◌, ◌≢◌, ◌<◌, ◌≤◌, ◌+◌, ◌++◌, ◌∷◌, [], ℕ, length, max, replicate, Some, slice_get, slice_set, vec_capacity};
+ghost use Rattle.std.specs.Prelude.{◌≡◌, ◌≢◌, ◌<◌, ◌≤◌, ◌+◌, ◌++◌, ◌∷◌, [], ℕ, length, max, Some, slice_get, slice_set, vec_capacity};
 
 /// A block, by its place and its number, counted from 0 in the order in which blocks were made. A place is used again
 /// once its block is dead, so the number tells a stale reference.
@@ -77,7 +77,7 @@ pub fn clear(cells: &mut Vec<Cell>, from: usize, count: u32)
         slice_get cells.new.items k ≡ Some Cell.Unset }
     ensures before { (k : ℕ) → k < from → slice_get cells.new.items k
         ≡ slice_get cells.old.items k }
-    ensures behind { (k : ℕ) → from + count ≤ k →
+    ensures following { (k : ℕ) → from + count ≤ k →
         slice_get cells.new.items k ≡ slice_get cells.old.items k }
     ensures long { length cells.new.items ≡ length cells.old.items }
     ensures room { vec_capacity cells.new ≡ vec_capacity cells.old }

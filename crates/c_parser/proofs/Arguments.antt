@@ -29,9 +29,9 @@ pub all_read : (first : CArg) (xs all : List CArg) (start here rest : List Token
 all_read first xs all start here rest are before end =
     ap (λ r. arg_token (arg_of first) ∷ r) (before ∙ ap (more_begun (map arg_of xs)) end ∙ more_closed (map arg_of xs) rest) ∙ ap (λ ys. args_then (map arg_of ys) rest) (sym are)
 
-pub one_read : (xs : List CArg) (y : CArg) (start here behind rest : List Token) → start ≡ more_begun (map arg_of xs) here → here ≡ t.sign s.Comma ∷ behind → behind ≡ arg_token (arg_of y) ∷ rest
+pub one_read : (xs : List CArg) (y : CArg) (start here following rest : List Token) → start ≡ more_begun (map arg_of xs) here → here ≡ t.sign s.Comma ∷ following → following ≡ arg_token (arg_of y) ∷ rest
     → start ≡ more_begun (map arg_of (xs ++ y ∷ [])) rest
-one_read xs y start here behind rest before comma arg =
+one_read xs y start here following rest before comma arg =
     before ∙ ap (more_begun (map arg_of xs)) (comma ∙ ap (λ r. t.sign s.Comma ∷ r) arg) ∙ sym (more_one (map arg_of xs) (arg_of y) rest)
     ∙ ap (λ ys. more_begun ys rest) (sym (map-append arg_of xs (y ∷ [])))
 

@@ -1,4 +1,4 @@
--- Refusals of the automaton that an error tells, and what comes behind functions.
+-- Refusals of the automaton that an error tells, and what comes after functions.
 use Rattle.std.proofs.Common.{◌≡◌, ◌<◌, ℕ, zero, suc, Bool, true, false, Some, List, [], ◌∷◌, ◌++◌, ◌&&◌, length, refl, sym, ap, ◌∙◌, arith}
 use Rattle.std.specs.Prelude.{Result, Ok, Err}
 use Rattle.c_syntax.specs.declared.program.CVar.{CVar}
@@ -12,7 +12,7 @@ use Rattle.c_syntax.specs.Grammar.{language}
 use Rattle.c_automaton.specs.Refusals.{Refusal, unexpected_at, cut_short, over_limit}
 use Rattle.c_automaton.specs.Laws.{RefusesAsTheGrammar}
 use Rattle.c_automaton.specs.Automaton.{Symbol, Verdict, run, start, bodies, body, sign, type, head_rest, operand, value, args, cell_rest, is_string_taker}
-use Rattle.c_automaton.specs.Ahead.{Begins, begins_sign, begins_word, functions_symbol, behind_head_of, behind_variable_of}
+use Rattle.c_automaton.specs.Ahead.{Begins, begins_sign, begins_word, functions_symbol, after_head_of, after_variable_of}
 use Rattle.c_automaton.proofs.Taking.{head_begins, body_begins, semicolon_functions, reference_assigned}
 use Rattle.c_lexer.specs.declared.token.Lexeme.{Lexeme}
 use Rattle.c_parser.specs.declared.unit.Body.{Body}
@@ -33,10 +33,10 @@ fails_with v e f told is g tells = is ∙ ap refused (some_is f g (sym told ∙ 
 
 -- ---- a part's result is the whole's
 
-pub takes_behind : {A : Type 0} (before part : List Symbol) (ls : List Lexeme) (at here : ℕ) (r : Result (A × ℕ) ParseError)
+pub takes_after : {A : Type 0} (before part : List Symbol) (ls : List Lexeme) (at here : ℕ) (r : Result (A × ℕ) ParseError)
     → ((s : List Symbol) → run language (before ++ s) (ahead ls at) ≡ run language (part ++ s) (ahead ls here)) → Takes part ls here r → Takes before ls at r
-takes_behind before part ls at here (Ok x) same takes = λ s. same s ∙ takes s
-takes_behind before part ls at here (Err e) same takes = λ s f told. same s ∙ takes s f told
+takes_after before part ls at here (Ok x) same takes = λ s. same s ∙ takes s
+takes_after before part ls at here (Err e) same takes = λ s f told. same s ∙ takes s f told
 
 -- where the whole goes on with further symbols
 pub takes_before : {A : Type 0} (fits : List Symbol → Type 0) (before part rest : List Symbol) (ls : List Lexeme) (at here : ℕ) (r : Result (A × ℕ) ParseError)
@@ -58,15 +58,15 @@ pub operand_cell : (v : CVar) (ys : List Symbol) (ts mid rest : List text.Lexeme
 operand_cell v ys ts mid rest is a b = rw a.is (rw is (rw b.is refl))
 
 pub statement_cell : (v : CVar) (ys : List Symbol) (ts rest : List text.Lexeme) → v.reference ≡ true → Begins (t.sign Arrow) ts rest
-    → run language (behind_variable_of v ++ ys) ts ≡ run language (sign Arrow ∷ cell_rest (sign Assign ∷ operand ∷ sign Semicolon ∷ ys)) ts
+    → run language (after_variable_of v ++ ys) ts ≡ run language (sign Arrow ∷ cell_rest (sign Assign ∷ operand ∷ sign Semicolon ∷ ys)) ts
 statement_cell v ys ts rest is b = rw is (rw b.is refl)
 
 pub assigned : (v : CVar) (ys : List Symbol) (ts : List text.Lexeme) → (v.reference && begins_sign Arrow ts) ≡ false
-    → run language (behind_variable_of v ++ ys) ts ≡ run language (sign Assign ∷ value ∷ sign Semicolon ∷ ys) ts
+    → run language (after_variable_of v ++ ys) ts ≡ run language (sign Assign ∷ value ∷ sign Semicolon ∷ ys) ts
 assigned v ys ts none = by v.reference v.number none
   where
     by : (r : Bool) (n : ℕ) → (r && begins_sign Arrow ts) ≡ false
-        → run language (behind_variable_of (record { reference = r; number = n }) ++ ys) ts ≡ run language (sign Assign ∷ value ∷ sign Semicolon ∷ ys) ts
+        → run language (after_variable_of (record { reference = r; number = n }) ++ ys) ts ≡ run language (sign Assign ∷ value ∷ sign Semicolon ∷ ys) ts
     by true n lacks = reference_assigned (record { reference = true; number = n }) ys ts lacks
     by false n lacks = refl
 
@@ -78,19 +78,19 @@ value_primitive p ys ts rest h = rw h.is refl
 -- ---- functions
 
 pub head_here : (all : Bool) (ys : List Symbol) (ls : List Lexeme) (at : ℕ) → at < length ls → begins_word Void (ahead ls at) ≡ false
-    → run language (functions_symbol all ∷ ys) (ahead ls at) ≡ run language (type ∷ head_rest (behind_head_of all) ++ ys) (ahead ls at)
+    → run language (functions_symbol all ∷ ys) (ahead ls at) ≡ run language (type ∷ head_rest (after_head_of all) ++ ys) (ahead ls at)
 head_here all ys [] at inside lacks = absurd (omega (arith, inside))
 head_here all ys (l ∷ ls) zero inside lacks = head_begins all ys _ (lexemes_of ls) lacks
 head_here all ys (l ∷ ls) (suc n) inside lacks = head_here all ys ls n (omega (arith, inside)) lacks
 
--- behind a head: a semicolon before all bodies, or a body
+-- after a head: a semicolon before all bodies, or a body
 pub head_ends : (before : List Body) (ts rest : List text.Lexeme) → before_bodies before ≡ true → Begins (t.sign Semicolon) ts rest
-    → run language (behind_head_of (before_bodies before) ++ []) ts ≡ run language (functions_symbol (before_bodies before) ∷ []) rest
+    → run language (after_head_of (before_bodies before) ++ []) ts ≡ run language (functions_symbol (before_bodies before) ∷ []) rest
 head_ends [] ts rest none comes = semicolon_functions ts rest [] comes
 head_ends (b ∷ bs) ts rest none comes = absurd cc
 
 pub body_comes : (before : List Body) (ts : List text.Lexeme) → (before_bodies before && begins_sign Semicolon ts) ≡ false
-    → run language (behind_head_of (before_bodies before) ++ []) ts ≡ run language (sign OpenBrace ∷ body ∷ bodies ∷ []) ts
+    → run language (after_head_of (before_bodies before) ++ []) ts ≡ run language (sign OpenBrace ∷ body ∷ bodies ∷ []) ts
 body_comes [] ts lacks = body_begins [] ts lacks
 body_comes (b ∷ bs) ts lacks = refl
 

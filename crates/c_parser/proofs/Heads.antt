@@ -30,9 +30,9 @@ pub params_read : (first : CodeDeclaration) (ds all : List CodeDeclaration) (sta
 params_read first ds all start here rest are before end =
     ap (declaration_then (declaration_of first)) (before ∙ ap (more_begun (map declaration_of ds)) end ∙ more_closed (map declaration_of ds) rest) ∙ ap (λ es. params_then (map declaration_of es) rest) (sym are)
 
-pub param_read : (ds : List CodeDeclaration) (e : CodeDeclaration) (start here behind rest : List Token) → start ≡ more_begun (map declaration_of ds) here → here ≡ t.sign s.Comma ∷ behind → behind ≡ declaration_then (declaration_of e) rest
+pub param_read : (ds : List CodeDeclaration) (e : CodeDeclaration) (start here following rest : List Token) → start ≡ more_begun (map declaration_of ds) here → here ≡ t.sign s.Comma ∷ following → following ≡ declaration_then (declaration_of e) rest
     → start ≡ more_begun (map declaration_of (ds ++ e ∷ [])) rest
-param_read ds e start here behind rest before comma param =
+param_read ds e start here following rest before comma param =
     before ∙ ap (more_begun (map declaration_of ds)) (comma ∙ ap (λ r. t.sign s.Comma ∷ r) param) ∙ sym (more_one (map declaration_of ds) (declaration_of e) rest)
     ∙ ap (λ es. more_begun es rest) (sym (map-append declaration_of ds (e ∷ [])))
 
@@ -40,9 +40,9 @@ vars_one : (ds : List Declaration) (e : Declaration) (rest : List Token) → var
 vars_one [] e rest = refl
 vars_one (d ∷ ds) e rest = ap (λ r. declaration_then d (t.sign s.Semicolon ∷ r)) (vars_one ds e rest)
 
-pub var_read : (ds all : List CodeDeclaration) (e : CodeDeclaration) (start here behind rest : List Token) → all ≡ ds ++ e ∷ [] → start ≡ vars_then (map declaration_of ds) here → here ≡ declaration_then (declaration_of e) behind → behind ≡ t.sign s.Semicolon ∷ rest
+pub var_read : (ds all : List CodeDeclaration) (e : CodeDeclaration) (start here following rest : List Token) → all ≡ ds ++ e ∷ [] → start ≡ vars_then (map declaration_of ds) here → here ≡ declaration_then (declaration_of e) following → following ≡ t.sign s.Semicolon ∷ rest
     → start ≡ vars_then (map declaration_of all) rest
-var_read ds all e start here behind rest grown before var end =
+var_read ds all e start here following rest grown before var end =
     before ∙ ap (vars_then (map declaration_of ds)) (var ∙ ap (declaration_then (declaration_of e)) end) ∙ sym (vars_one (map declaration_of ds) (declaration_of e) rest)
     ∙ ap (λ es. vars_then es rest) (sym (ap (map declaration_of) grown ∙ map-append declaration_of ds (e ∷ [])))
 
@@ -50,9 +50,9 @@ heads_one : (hs : List Head) (h : Head) (rest : List Token) → heads_then (hs +
 heads_one [] h rest = refl
 heads_one (g ∷ gs) h rest = ap (λ r. head_then g (t.sign s.Semicolon ∷ r)) (heads_one gs h rest)
 
-pub head_read : (hs all : List CodeHead) (h : CodeHead) (bs : List CodeBody) (start here behind rest : List Token) → all ≡ hs ++ h ∷ [] → bs ≡ [] → start ≡ heads_then (map head_of hs) (bodies_then (map body_of bs) here)
-    → here ≡ head_then (head_of h) behind → behind ≡ t.sign s.Semicolon ∷ rest → start ≡ heads_then (map head_of all) (bodies_then (map body_of bs) rest)
-head_read hs all h bs start here behind rest grown none before head end =
+pub head_read : (hs all : List CodeHead) (h : CodeHead) (bs : List CodeBody) (start here following rest : List Token) → all ≡ hs ++ h ∷ [] → bs ≡ [] → start ≡ heads_then (map head_of hs) (bodies_then (map body_of bs) here)
+    → here ≡ head_then (head_of h) following → following ≡ t.sign s.Semicolon ∷ rest → start ≡ heads_then (map head_of all) (bodies_then (map body_of bs) rest)
+head_read hs all h bs start here following rest grown none before head end =
     before ∙ ap (λ x. heads_then (map head_of hs) (bodies_then (map body_of x) here)) none
     ∙ ap (heads_then (map head_of hs)) (head ∙ ap (head_then (head_of h)) end)
     ∙ sym (heads_one (map head_of hs) (head_of h) rest)
@@ -63,9 +63,9 @@ bodies_one : (bs : List Body) (b : Body) (rest : List Token) → bodies_then (bs
 bodies_one [] b rest = refl
 bodies_one (x ∷ xs) b rest = ap (body_then x) (bodies_one xs b rest)
 
-pub body_read : (hs : List CodeHead) (h : CodeHead) (bs all : List CodeBody) (b : CodeBody) (start here behind rest : List Token) → all ≡ bs ++ b ∷ [] → start ≡ heads_then (map head_of hs) (bodies_then (map body_of bs) here)
-    → here ≡ head_then (head_of h) behind → head_then (head_of h) behind ≡ body_then (body_of b) rest → start ≡ heads_then (map head_of hs) (bodies_then (map body_of all) rest)
-body_read hs h bs all b start here behind rest grown before head body =
+pub body_read : (hs : List CodeHead) (h : CodeHead) (bs all : List CodeBody) (b : CodeBody) (start here following rest : List Token) → all ≡ bs ++ b ∷ [] → start ≡ heads_then (map head_of hs) (bodies_then (map body_of bs) here)
+    → here ≡ head_then (head_of h) following → head_then (head_of h) following ≡ body_then (body_of b) rest → start ≡ heads_then (map head_of hs) (bodies_then (map body_of all) rest)
+body_read hs h bs all b start here following rest grown before head body =
     before ∙ ap (λ x. heads_then (map head_of hs) (bodies_then (map body_of bs) x)) (head ∙ body)
     ∙ ap (heads_then (map head_of hs)) (sym (bodies_one (map body_of bs) (body_of b) rest))
     ∙ ap (λ x. heads_then (map head_of hs) (bodies_then x rest)) (sym (ap (map body_of) grown ∙ map-append body_of bs (b ∷ [])))

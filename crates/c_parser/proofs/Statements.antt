@@ -18,7 +18,7 @@ use Rattle.c_syntax.specs.declared.program.CStmt.{Set as CodeSet, Put as CodePut
 use Rattle.c_syntax.specs.View.{expr_of, stmt_of, stmts_of, stmts_made}
 use Rattle.c_lexer.specs.declared.token.Lexeme.{Lexeme}
 use Rattle.c_lexer.specs.View.{tokens_from}
-use Rattle.c_parser.specs.Parsing.{Reads, ReadsBehind, ReadsBehindTwo}
+use Rattle.c_parser.specs.Parsing.{Reads, ReadsAfter, ReadsAfterTwo}
 
 pub max_le : (a b n : ℕ) → a ≤ n → b ≤ n → max a b ≤ n
 max_le a b n h k = omega (arith, h, k)
@@ -32,10 +32,10 @@ one_deeper a room h = omega (arith, h)
 return_seen : (e : CExpr) → stmt_of (CodeReturn (Some e)) ≡ c.return (Some (expr_of e))
 return_seen e = search (rules, the_lemmas)
 
-pub return_reads : (ls : List Lexeme) (at next behind : ℕ) (e : CExpr) → Reads ls at next (expr_then (expr_of e)) → Reads ls next behind (λ rest. t.sign s.Semicolon ∷ rest)
-    → ReadsBehind (t.word w.Return) ls at behind (stmt_then (stmt_of (CodeReturn (Some e))))
-return_reads ls at next behind e a b = record {
-  spells = ap (λ ts. t.word w.Return ∷ ts) (a.spells ∙ ap (expr_then (expr_of e)) b.spells) ∙ ap (λ x. stmt_then x (tokens_from ls behind)) (sym (return_seen e));
+pub return_reads : (ls : List Lexeme) (at next following : ℕ) (e : CExpr) → Reads ls at next (expr_then (expr_of e)) → Reads ls next following (λ rest. t.sign s.Semicolon ∷ rest)
+    → ReadsAfter (t.word w.Return) ls at following (stmt_then (stmt_of (CodeReturn (Some e))))
+return_reads ls at next following e a b = record {
+  spells = ap (λ ts. t.word w.Return ∷ ts) (a.spells ∙ ap (expr_then (expr_of e)) b.spells) ∙ ap (λ x. stmt_then x (tokens_from ls following)) (sym (return_seen e));
   later = omega (arith, a.later, b.later);
   within = b.within;
 }
@@ -46,10 +46,10 @@ return_is e is room = rw (return_seen e) (record { written = is.arities; express
 set_seen : (v : CVar) (e : CExpr) → stmt_of (CodeSet v e) ≡ c.set v (expr_of e)
 set_seen v e = search (rules, the_lemmas)
 
-pub set_reads : (ls : List Lexeme) (at next behind : ℕ) (v : CVar) (e : CExpr) → Reads ls at next (expr_then (expr_of e)) → Reads ls next behind (λ rest. t.sign s.Semicolon ∷ rest)
-    → ReadsBehindTwo (t.variable v) (t.sign s.Assign) ls at behind (stmt_then (stmt_of (CodeSet v e)))
-set_reads ls at next behind v e a b = record {
-  spells = ap (λ ts. t.variable v ∷ t.sign s.Assign ∷ ts) (a.spells ∙ ap (expr_then (expr_of e)) b.spells) ∙ ap (λ x. stmt_then x (tokens_from ls behind)) (sym (set_seen v e));
+pub set_reads : (ls : List Lexeme) (at next following : ℕ) (v : CVar) (e : CExpr) → Reads ls at next (expr_then (expr_of e)) → Reads ls next following (λ rest. t.sign s.Semicolon ∷ rest)
+    → ReadsAfterTwo (t.variable v) (t.sign s.Assign) ls at following (stmt_then (stmt_of (CodeSet v e)))
+set_reads ls at next following v e a b = record {
+  spells = ap (λ ts. t.variable v ∷ t.sign s.Assign ∷ ts) (a.spells ∙ ap (expr_then (expr_of e)) b.spells) ∙ ap (λ x. stmt_then x (tokens_from ls following)) (sym (set_seen v e));
   later = omega (arith, a.later, b.later);
   within = b.within;
 }
@@ -63,13 +63,13 @@ put_seen x e = search (rules, the_lemmas)
 referred : (v : CVar) → v.reference ≡ true → v ≡ record { reference = true; number = v.number }
 referred v is = ap (λ r. record { reference = r; number = v.number }) is
 
-pub put_reads : (ls : List Lexeme) (at n m k behind : ℕ) (v : CVar) (x : CCell) (e : CExpr) → v.reference ≡ true → ReadsBehind (t.variable (record { reference = true; number = v.number })) ls at n (cell_then x)
-    → Reads ls n m (λ rest. t.sign s.Assign ∷ rest) → Reads ls m k (expr_then (expr_of e)) → Reads ls k behind (λ rest. t.sign s.Semicolon ∷ rest)
-    → ReadsBehind (t.variable v) ls at behind (stmt_then (stmt_of (CodePut x e)))
-put_reads ls at n m k behind v x e is a b c d = record {
+pub put_reads : (ls : List Lexeme) (at n m k following : ℕ) (v : CVar) (x : CCell) (e : CExpr) → v.reference ≡ true → ReadsAfter (t.variable (record { reference = true; number = v.number })) ls at n (cell_then x)
+    → Reads ls n m (λ rest. t.sign s.Assign ∷ rest) → Reads ls m k (expr_then (expr_of e)) → Reads ls k following (λ rest. t.sign s.Semicolon ∷ rest)
+    → ReadsAfter (t.variable v) ls at following (stmt_then (stmt_of (CodePut x e)))
+put_reads ls at n m k following v x e is a b c d = record {
   spells = ap (λ w. t.variable w ∷ tokens_from ls at) (referred v is) ∙ a.spells
       ∙ ap (cell_then x) (b.spells ∙ ap (λ ts. t.sign s.Assign ∷ ts) (c.spells ∙ ap (expr_then (expr_of e)) d.spells))
-      ∙ ap (λ y. stmt_then y (tokens_from ls behind)) (sym (put_seen x e));
+      ∙ ap (λ y. stmt_then y (tokens_from ls following)) (sym (put_seen x e));
   later = omega (arith, a.later, b.later, c.later, d.later);
   within = d.within;
 }
@@ -85,11 +85,11 @@ Opens ls at next xs = Reads ls at next (λ rest. t.sign s.OpenBrace ∷ stmts_th
 if_seen : (e : CExpr) (xs : List CStmt) → stmt_of (CodeIf e xs) ≡ c.when (expr_of e) (stmts_of xs)
 if_seen e xs = search (rules, the_lemmas)
 
-pub if_reads : (ls : List Lexeme) (at n m k behind : ℕ) (e : CExpr) (xs : List CStmt) → Reads ls at n (λ rest. t.sign s.OpenParen ∷ rest) → Reads ls n m (expr_then (expr_of e))
-    → Reads ls m k (λ rest. t.sign s.CloseParen ∷ rest) → Opens ls k behind xs → ReadsBehind (t.word w.If) ls at behind (stmt_then (stmt_of (CodeIf e xs)))
-if_reads ls at n m k behind e xs a b c d = record {
+pub if_reads : (ls : List Lexeme) (at n m k following : ℕ) (e : CExpr) (xs : List CStmt) → Reads ls at n (λ rest. t.sign s.OpenParen ∷ rest) → Reads ls n m (expr_then (expr_of e))
+    → Reads ls m k (λ rest. t.sign s.CloseParen ∷ rest) → Opens ls k following xs → ReadsAfter (t.word w.If) ls at following (stmt_then (stmt_of (CodeIf e xs)))
+if_reads ls at n m k following e xs a b c d = record {
   spells = ap (λ ts. t.word w.If ∷ ts) (a.spells ∙ ap (λ ts. t.sign s.OpenParen ∷ ts) (b.spells ∙ ap (expr_then (expr_of e)) (c.spells ∙ ap (λ ts. t.sign s.CloseParen ∷ ts) d.spells)))
-      ∙ ap (λ y. stmt_then y (tokens_from ls behind)) (sym (if_seen e xs));
+      ∙ ap (λ y. stmt_then y (tokens_from ls following)) (sym (if_seen e xs));
   later = omega (arith, a.later, b.later, c.later, d.later);
   within = d.within;
 }
@@ -104,13 +104,13 @@ if_is e xs room is are = rw (if_seen e xs) (record {
 if_else_seen : (e : CExpr) (xs ys : List CStmt) → stmt_of (CodeIfElse e xs ys) ≡ c.choose (expr_of e) (stmts_of xs) (stmts_of ys)
 if_else_seen e xs ys = search (rules, the_lemmas)
 
-pub if_else_reads : (ls : List Lexeme) (at n m k j behind : ℕ) (e : CExpr) (xs ys : List CStmt) → Reads ls at n (λ rest. t.sign s.OpenParen ∷ rest) → Reads ls n m (expr_then (expr_of e))
-    → Reads ls m k (λ rest. t.sign s.CloseParen ∷ rest) → Opens ls k j xs → Reads ls j (j + 1) (λ rest. t.word w.Else ∷ rest) → Opens ls (j + 1) behind ys
-    → ReadsBehind (t.word w.If) ls at behind (stmt_then (stmt_of (CodeIfElse e xs ys)))
-if_else_reads ls at n m k j behind e xs ys a b c d f g = record {
+pub if_else_reads : (ls : List Lexeme) (at n m k j following : ℕ) (e : CExpr) (xs ys : List CStmt) → Reads ls at n (λ rest. t.sign s.OpenParen ∷ rest) → Reads ls n m (expr_then (expr_of e))
+    → Reads ls m k (λ rest. t.sign s.CloseParen ∷ rest) → Opens ls k j xs → Reads ls j (j + 1) (λ rest. t.word w.Else ∷ rest) → Opens ls (j + 1) following ys
+    → ReadsAfter (t.word w.If) ls at following (stmt_then (stmt_of (CodeIfElse e xs ys)))
+if_else_reads ls at n m k j following e xs ys a b c d f g = record {
   spells = ap (λ ts. t.word w.If ∷ ts) (a.spells ∙ ap (λ ts. t.sign s.OpenParen ∷ ts) (b.spells ∙ ap (expr_then (expr_of e)) (c.spells ∙ ap (λ ts. t.sign s.CloseParen ∷ ts)
       (d.spells ∙ ap (λ ts. t.sign s.OpenBrace ∷ stmts_then (stmts_of xs) (t.sign s.CloseBrace ∷ ts)) (f.spells ∙ ap (λ ts. t.word w.Else ∷ ts) g.spells)))))
-      ∙ ap (λ y. stmt_then y (tokens_from ls behind)) (sym (if_else_seen e xs ys));
+      ∙ ap (λ y. stmt_then y (tokens_from ls following)) (sym (if_else_seen e xs ys));
   later = omega (arith, a.later, b.later, c.later, d.later, f.later, g.later);
   within = g.within;
 }
@@ -126,11 +126,11 @@ if_else_is e xs ys room is are other = rw (if_else_seen e xs ys) (record {
 while_seen : (xs : List CStmt) → stmt_of (CodeWhile xs) ≡ c.loop (stmts_of xs)
 while_seen xs = search (rules, the_lemmas)
 
-pub while_reads : (ls : List Lexeme) (at n m behind : ℕ) (xs : List CStmt) → Reads ls at n (λ rest. t.sign s.OpenParen ∷ rest) → Reads ls n (n + 1) (λ rest. t.number (pos 1) ∷ rest)
-    → Reads ls (n + 1) m (λ rest. t.sign s.CloseParen ∷ rest) → Opens ls m behind xs → ReadsBehind (t.word w.While) ls at behind (stmt_then (stmt_of (CodeWhile xs)))
-while_reads ls at n m behind xs a b c d = record {
+pub while_reads : (ls : List Lexeme) (at n m following : ℕ) (xs : List CStmt) → Reads ls at n (λ rest. t.sign s.OpenParen ∷ rest) → Reads ls n (n + 1) (λ rest. t.number (pos 1) ∷ rest)
+    → Reads ls (n + 1) m (λ rest. t.sign s.CloseParen ∷ rest) → Opens ls m following xs → ReadsAfter (t.word w.While) ls at following (stmt_then (stmt_of (CodeWhile xs)))
+while_reads ls at n m following xs a b c d = record {
   spells = ap (λ ts. t.word w.While ∷ ts) (a.spells ∙ ap (λ ts. t.sign s.OpenParen ∷ ts) (b.spells ∙ ap (λ ts. t.number (pos 1) ∷ ts) (c.spells ∙ ap (λ ts. t.sign s.CloseParen ∷ ts) d.spells)))
-      ∙ ap (λ y. stmt_then y (tokens_from ls behind)) (sym (while_seen xs));
+      ∙ ap (λ y. stmt_then y (tokens_from ls following)) (sym (while_seen xs));
   later = omega (arith, a.later, b.later, c.later, d.later);
   within = d.within;
 }

@@ -16,7 +16,7 @@ use Rattle.c_lexer.specs.View.{lexemes_of}
 abbrev pub ahead : List Lexeme → ℕ → List text.Lexeme
 ahead ls at = lexemes_of (drop at ls)
 
--- this token comes, and then those behind the other position
+-- this token comes, and then those after the other position
 abbrev pub Comes : Token → List Lexeme → ℕ → ℕ → Type 0
 Comes token ls at next = Begins token (ahead ls at) (ahead ls next)
 

@@ -18,25 +18,25 @@ pub record ReadsSome (ls : List Lexeme) (at next : ℕ) (spelled : List Token �
   pub later : at ≤ next
   pub within : next ≤ length ls
 
--- behind a token that was read before
-pub record ReadsBehind (first : Token) (ls : List Lexeme) (at next : ℕ) (spelled : List Token → List Token) : Type 0 where
+-- after a token that was read before
+pub record ReadsAfter (first : Token) (ls : List Lexeme) (at next : ℕ) (spelled : List Token → List Token) : Type 0 where
   pub spells : first ∷ tokens_from ls at ≡ spelled (tokens_from ls next)
   pub later : at < next
   pub within : next ≤ length ls
 
--- behind two such tokens
-pub record ReadsBehindTwo (first second : Token) (ls : List Lexeme) (at next : ℕ) (spelled : List Token → List Token) : Type 0 where
+-- after two such tokens
+pub record ReadsAfterTwo (first second : Token) (ls : List Lexeme) (at next : ℕ) (spelled : List Token → List Token) : Type 0 where
   pub spells : first ∷ second ∷ tokens_from ls at ≡ spelled (tokens_from ls next)
   pub later : at < next
   pub within : next ≤ length ls
 
--- parameters behind the first, which is that one
+-- parameters after the first, which is that one
 pub record ReadsParams (ls : List Lexeme) (at next : ℕ) (first : Declaration) (params : List Declaration) : Type 0 where
   pub spells : declaration_then first (tokens_from ls at) ≡ params_then params (tokens_from ls next)
   pub later : at < next
   pub within : next ≤ length ls
 
--- a function behind its head
+-- a function after its head
 pub record ReadsBody (ls : List Lexeme) (at next : ℕ) (head : Head) (body : Body) : Type 0 where
   pub spells : head_then head (tokens_from ls at) ≡ body_then body (tokens_from ls next)
   pub later : at < next

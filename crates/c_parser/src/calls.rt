@@ -1,10 +1,10 @@
 //! Calls.
 
-ghost use Rattle.std.specs.Prelude.{◌≡◌, ◌+◌, [], ◌∷◌, false, true, map, IfErr, IfOk};
-ghost use Rattle.c_syntax.specs.Spelling.{arg_token, args_then, call_then, more_args_then};
+ghost use Rattle.std.specs.Prelude.{◌≡◌, ◌+◌, [], ◌∷◌, false, true, map, IfOk};
+ghost use Rattle.c_syntax.specs.Spelling.{arg_token, args_then, call_then};
 ghost use Rattle.c_syntax.specs.Grammar.{HasNoText, IsCall};
 ghost use Rattle.c_syntax.specs.View.{arg_of, call_of};
-ghost use Rattle.c_parser.specs.Parsing.{Reads, ReadsBehind};
+ghost use Rattle.c_parser.specs.Parsing.{Reads, ReadsAfter};
 ghost use Rattle.c_automaton.specs.Automaton as machine;
 ghost use Rattle.c_parser.specs.Following.{ahead, Takes, Turns};
 ghost use Rattle.c_automaton.specs.Ahead.{begins_with, is_callee};
@@ -33,7 +33,7 @@ fn arg(alloc: Global, lexemes: &[Lexeme<'_>], at: usize, texts: bool) -> Result<
     }
 }
 
-/// The arguments behind the first, and the closing parenthesis.
+/// The arguments after the first, and the closing parenthesis.
 #[tactic(auto, using(c_automaton::proofs::Taking::comma_arg, c_automaton::proofs::Taking::more_args_end))]
 fn more_args(
     alloc: Global,
@@ -43,7 +43,7 @@ fn more_args(
     first: CArg,
 ) -> Result<(Items<CArg>, usize), ParseError>
     requires { texts ≡ false → HasNoText (arg_of first ∷ []) }
-    ensures reads { IfOk result (λ x. ReadsBehind (arg_token (arg_of first)) lexemes.now at x.1
+    ensures reads { IfOk result (λ x. ReadsAfter (arg_token (arg_of first)) lexemes.now at x.1
         (args_then (map arg_of x.0))) }
     ensures is { IfOk result (λ x. texts ≡ false → HasNoText (map arg_of x.0)) }
     ensures follows { Takes (machine.more_args texts ∷ []) lexemes.now at result }

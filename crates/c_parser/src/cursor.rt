@@ -1,6 +1,6 @@
 //! One token at a time.
 
-ghost use Rattle.std.specs.Prelude.{◌≡◌, ◌∷◌, [], ◌+◌, ◌≤◌, Some, length, MatchOption, IfErr, IfOk, IsTrue};
+ghost use Rattle.std.specs.Prelude.{◌≡◌, ◌∷◌, [], ◌+◌, ◌≤◌, Some, MatchOption, IfOk, IsTrue};
 ghost use Rattle.c_syntax.specs.Tokens as t;
 ghost use Rattle.c_lexer.specs.View.{token_of, tokens_from};
 ghost use Rattle.c_parser.specs.Parsing.{Reads};

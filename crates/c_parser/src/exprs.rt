@@ -1,13 +1,13 @@
 //! Cells, expressions and calls.
 
-ghost use Rattle.std.specs.Prelude.{◌≡◌, ◌+◌, ◌≤◌, [], ◌∷◌, List, true, map, IfErr, IfOk};
+ghost use Rattle.std.specs.Prelude.{◌≡◌, ◌+◌, ◌≤◌, [], ◌∷◌, true, IfOk};
 ghost use Rattle.vlt_ops.specs.Operator.{row_of};
 ghost use Rattle.c_syntax.specs.Tokens as t;
 ghost use Rattle.c_syntax.specs.declared.token.CSign.TheVariants.{OpenParen};
-ghost use Rattle.c_syntax.specs.Spelling.{arg_token, args_then, call_then, cell_then, expr_then, more_args_then};
-ghost use Rattle.c_syntax.specs.Grammar.{HasNoText, IsCall, IsExpr};
-ghost use Rattle.c_syntax.specs.View.{arg_of, call_of, expr_of};
-ghost use Rattle.c_parser.specs.Parsing.{Reads, ReadsBehind};
+ghost use Rattle.c_syntax.specs.Spelling.{cell_then, expr_then};
+ghost use Rattle.c_syntax.specs.Grammar.{IsExpr};
+ghost use Rattle.c_syntax.specs.View.{expr_of};
+ghost use Rattle.c_parser.specs.Parsing.{Reads, ReadsAfter};
 ghost use Rattle.c_syntax.specs.declared.token.CSign.TheVariants.{Arrow};
 ghost use Rattle.c_automaton.specs.Automaton as machine;
 ghost use Rattle.c_parser.specs.Following.{AtDepth, Takes, Turns, TurnsWhere};
@@ -20,14 +20,14 @@ use std::alloc::Global;
 use vlt_base::{Boxed, C_EXPRESSION_DEPTH, Items};
 use vlt_ops::{Op, row};
 
-/// The rest of a cell, behind the variable of this number.
-pub fn cell_behind(
+/// The rest of a cell, after the variable of this number.
+pub fn cell_after(
     lexemes: &[Lexeme<'_>],
     at: usize,
     base: u64,
 ) -> Result<(CCell, usize), ParseError>
     ensures reads { IfOk result (λ x.
-        ReadsBehind (t.variable (record { reference = true; number = base })) lexemes.now at x.1
+        ReadsAfter (t.variable (record { reference = true; number = base })) lexemes.now at x.1
         (cell_then x.0)) }
     ensures follows { Takes (machine.sign Arrow ∷ machine.cell_rest []) lexemes.now at result }
 {
@@ -50,17 +50,17 @@ pub fn cell_behind(
     }
 }
 
-/// What stands behind an opening parenthesis, with the closing one.
+/// What stands after an opening parenthesis, with the closing one.
 #[tactic(auto, using(c_automaton::proofs::Taking::inside_operand, c_automaton::proofs::Taking::prefix_taken, c_automaton::proofs::Taking::closing_paren))]
 #[cycle(expression)]
-fn behind_paren(
+fn after_paren(
     alloc: Global,
     lexemes: &[Lexeme<'_>],
     at: usize,
     depth: u8,
 ) -> Result<(CExpr, usize), ParseError>
     requires { 1 ≤ depth }
-    ensures reads { IfOk result (λ x. ReadsBehind (t.sign OpenParen) lexemes.now at x.1
+    ensures reads { IfOk result (λ x. ReadsAfter (t.sign OpenParen) lexemes.now at x.1
         (expr_then (expr_of x.0))) }
     ensures is { IfOk result (λ x. IsExpr (depth + 1) (expr_of x.0)) }
     ensures follows { TurnsWhere (AtDepth (depth + 1)) (machine.inside ∷ []) [] (λ x. x.1)
@@ -126,7 +126,7 @@ pub fn expr(
         Some(Token::Word(CWord::Null)) => Ok((CExpr::Null, at + 1)),
         Some(Token::Var(variable)) => {
             if variable.reference && is_sign(lexemes, at + 1, CSign::Arrow) {
-                let (cell, next) = cell_behind(lexemes, at + 1, variable.number)?;
+                let (cell, next) = cell_after(lexemes, at + 1, variable.number)?;
                 return Ok((CExpr::Cell(cell), next));
             }
             Ok((CExpr::Var(variable), at + 1))
@@ -135,7 +135,7 @@ pub fn expr(
             if depth == 1 {
                 return Err(ParseError::Limit(C_EXPRESSION_DEPTH));
             }
-            behind_paren(alloc, lexemes, at + 1, depth - 1)
+            after_paren(alloc, lexemes, at + 1, depth - 1)
         }
         _ => Err(refuse(lexemes, at)),
     }

@@ -10,7 +10,7 @@ ghost use Rattle.c_parser.specs.Parsing.{Reads, ReadsBody, ReadsParams, ReadsSom
 ghost use Rattle.c_syntax.specs.declared.token.CSign.TheVariants.{OpenBrace, Semicolon};
 ghost use Rattle.c_automaton.specs.Automaton as machine;
 ghost use Rattle.c_parser.specs.Following.{ahead, before_bodies, Comes, Fails, HasNoBlock, Takes, Turns, TurnsWhere};
-ghost use Rattle.c_automaton.specs.Ahead.{begins_sign, begins_with, behind_head_of, functions_symbol, is_type};
+ghost use Rattle.c_automaton.specs.Ahead.{begins_sign, begins_with, after_head_of, functions_symbol, is_type};
 
 use crate::cursor::{is_sign, is_word, refuse, sign, token, word};
 use crate::error::ParseError;
@@ -44,7 +44,7 @@ fn result_at(lexemes: &[Lexeme<'_>], at: usize) -> Result<(CResult, usize), Pars
     requires { at < length lexemes.now }
     ensures reads { IfOk result (λ x. Reads lexemes.now at x.1 (result_then x.0)) }
     ensures follows { (all : Bool) → Turns (functions_symbol all ∷ [])
-        (machine.head_rest (behind_head_of all)) (λ x. x.1) lexemes.now at result }
+        (machine.head_rest (after_head_of all)) (λ x. x.1) lexemes.now at result }
 {
     if is_word(lexemes, at, CWord::Void) {
         return Ok((CResult::Nothing, at + 1));
@@ -76,7 +76,7 @@ fn declaration(lexemes: &[Lexeme<'_>], at: usize) -> Result<(Declaration, usize)
     }
 }
 
-/// The parameters behind the first, and the closing parenthesis.
+/// The parameters after the first, and the closing parenthesis.
 #[tactic(auto, using(c_automaton::proofs::Taking::comma_param, c_automaton::proofs::Taking::more_params_end))]
 fn more_params(
     alloc: Global,
@@ -136,7 +136,7 @@ fn head(alloc: Global, lexemes: &[Lexeme<'_>], at: usize) -> Result<(Head, usize
     requires { at < length lexemes.now }
     ensures reads { IfOk result (λ x. Reads lexemes.now at x.1 (head_then (head_of x.0))) }
     ensures follows { (all : Bool) → Turns (functions_symbol all ∷ [])
-        (behind_head_of all) (λ x. x.1) lexemes.now at result }
+        (after_head_of all) (λ x. x.1) lexemes.now at result }
 {
     let (given, next) = result_at(lexemes, at)?;
     let name = name(lexemes, next)?;
@@ -182,7 +182,7 @@ fn vars(
     Ok((vars, here))
 }
 
-/// A function, behind its head.
+/// A function, after its head.
 fn body(
     alloc: Global,
     lexemes: &[Lexeme<'_>],

@@ -1,21 +1,21 @@
 //! Statements.
 
-ghost use Rattle.std.specs.Prelude.{◌≡◌, ◌+◌, ◌≤◌, [], ◌∷◌, ℕ, Bool, true, false, ◌&&◌, IfErr, IfOk, IsTrue};
+ghost use Rattle.std.specs.Prelude.{◌≡◌, ◌+◌, ◌≤◌, [], ◌∷◌, ℕ, Bool, true, false, ◌&&◌, IfOk, IsTrue};
 ghost use Rattle.c_syntax.specs.Tokens as t;
 ghost use Rattle.c_syntax.specs.declared.token.CSign.TheVariants.{Arrow, Assign, CloseBrace, OpenBrace, Semicolon};
 ghost use Rattle.c_syntax.specs.declared.token.CWord.TheVariants.{If, Return, While};
 ghost use Rattle.c_syntax.specs.Spelling.{stmt_then, stmts_then};
 ghost use Rattle.c_syntax.specs.Grammar.{AreStmts, IsStmt, language};
 ghost use Rattle.c_syntax.specs.View.{stmt_of, stmts_of};
-ghost use Rattle.c_parser.specs.Parsing.{Reads, ReadsBehind, ReadsBehindTwo};
+ghost use Rattle.c_parser.specs.Parsing.{Reads, ReadsAfter, ReadsAfterTwo};
 ghost use Rattle.c_automaton.specs.Automaton as machine;
 ghost use Rattle.c_parser.specs.Following.{ahead, Comes, Takes, TurnsWhere, WithRoom};
-ghost use Rattle.c_automaton.specs.Ahead.{begins_sign, behind_variable_of, if_rest, while_rest};
+ghost use Rattle.c_automaton.specs.Ahead.{begins_sign, after_variable_of, if_rest, while_rest};
 
 use crate::calls::call;
 use crate::cursor::{is_sign, is_word, refuse, sign, token, word};
 use crate::error::ParseError;
-use crate::exprs::{cell_behind, expr};
+use crate::exprs::{cell_after, expr};
 use c_lexer::{Lexeme, Token};
 use c_syntax::{CSign, CStmt, CVar, CWord};
 use std::alloc::Global;
@@ -24,7 +24,7 @@ use vlt_base::{C_BLOCK_DEPTH, Items};
 /// How deep an expression may be.
 const DEPTH: u8 = 16;
 
-/// What is set to a value or to what a call gives, behind the sign.
+/// What is set to a value or to what a call gives, after the sign.
 #[tactic(auto, using(c_automaton::proofs::Taking::value_operand))]
 fn set(
     alloc: Global,
@@ -32,7 +32,7 @@ fn set(
     at: usize,
     variable: CVar,
 ) -> Result<(CStmt, usize), ParseError>
-    ensures reads { IfOk result (λ x. ReadsBehindTwo (t.variable variable)
+    ensures reads { IfOk result (λ x. ReadsAfterTwo (t.variable variable)
         (t.sign Assign) lexemes.now at x.1 (stmt_then (stmt_of x.0))) }
     ensures is { (room : ℕ) → IfOk result (λ x.
         IsStmt language.expressions room (stmt_of x.0)) }
@@ -63,20 +63,20 @@ fn is_cell(lexemes: &[Lexeme<'_>], at: usize, variable: CVar) -> bool
 }
 
 /// A statement that begins with a variable.
-fn behind_variable(
+fn after_variable(
     alloc: Global,
     lexemes: &[Lexeme<'_>],
     at: usize,
     variable: CVar,
 ) -> Result<(CStmt, usize), ParseError>
-    ensures reads { IfOk result (λ x. ReadsBehind (t.variable variable) lexemes.now at x.1
+    ensures reads { IfOk result (λ x. ReadsAfter (t.variable variable) lexemes.now at x.1
         (stmt_then (stmt_of x.0))) }
     ensures is { (room : ℕ) → IfOk result (λ x.
         IsStmt language.expressions room (stmt_of x.0)) }
-    ensures follows { Takes (behind_variable_of variable) lexemes.now at result }
+    ensures follows { Takes (after_variable_of variable) lexemes.now at result }
 {
     if is_cell(lexemes, at, variable) {
-        let (cell, next) = cell_behind(lexemes, at, variable.number)?;
+        let (cell, next) = cell_after(lexemes, at, variable.number)?;
         let next = sign(lexemes, next, CSign::Assign)?;
         let (value, next) = expr(alloc, lexemes, next, DEPTH)?;
         let next = sign(lexemes, next, CSign::Semicolon)?;
@@ -86,18 +86,18 @@ fn behind_variable(
     set(alloc, lexemes, next, variable)
 }
 
-/// What stands behind `return`.
+/// What stands after `return`.
 #[tactic(auto, using(c_automaton::proofs::Taking::return_ends, c_automaton::proofs::Taking::return_value))]
-fn behind_return(
+fn after_return(
     alloc: Global,
     lexemes: &[Lexeme<'_>],
     at: usize,
 ) -> Result<(CStmt, usize), ParseError>
-    ensures reads { IfOk result (λ x. ReadsBehind (t.word Return) lexemes.now at x.1
+    ensures reads { IfOk result (λ x. ReadsAfter (t.word Return) lexemes.now at x.1
         (stmt_then (stmt_of x.0))) }
     ensures is { (room : ℕ) → IfOk result (λ x.
         IsStmt language.expressions room (stmt_of x.0)) }
-    ensures follows { Takes (machine.behind_return ∷ []) lexemes.now at result }
+    ensures follows { Takes (machine.after_return ∷ []) lexemes.now at result }
 {
     if is_sign(lexemes, at, CSign::Semicolon) {
         return Ok((CStmt::Return(None), at + 1));
@@ -144,9 +144,9 @@ pub fn stmts(
     let mut found = Items::new(alloc);
     let mut here = at;
     while !is_sign(lexemes, here, CSign::CloseBrace) {
-        let (next, behind) = stmt(alloc, lexemes, here, room)?;
+        let (next, following) = stmt(alloc, lexemes, here, room)?;
         found.push(next)?;
-        here = behind;
+        here = following;
     }
     Ok((found, here + 1))
 }
@@ -168,13 +168,13 @@ fn stmt(
         lexemes.now at result }
 {
     match token(lexemes, at) {
-        Some(Token::Var(variable)) => behind_variable(alloc, lexemes, at + 1, variable),
+        Some(Token::Var(variable)) => after_variable(alloc, lexemes, at + 1, variable),
         Some(Token::Name(_) | Token::Primitive(_)) => {
             let (call, next) = call(alloc, lexemes, at)?;
             let next = sign(lexemes, next, CSign::Semicolon)?;
             Ok((CStmt::Call(call), next))
         }
-        Some(Token::Word(CWord::Return)) => behind_return(alloc, lexemes, at + 1),
+        Some(Token::Word(CWord::Return)) => after_return(alloc, lexemes, at + 1),
         Some(Token::Word(CWord::Break)) => {
             let next = sign(lexemes, at + 1, CSign::Semicolon)?;
             Ok((CStmt::Break, next))
@@ -187,28 +187,28 @@ fn stmt(
             if room == 0 {
                 return Err(ParseError::Limit(C_BLOCK_DEPTH));
             }
-            behind_if(alloc, lexemes, at + 1, room - 1)
+            following_if(alloc, lexemes, at + 1, room - 1)
         }
         Some(Token::Word(CWord::While)) => {
             if room == 0 {
                 return Err(ParseError::Limit(C_BLOCK_DEPTH));
             }
-            behind_while(alloc, lexemes, at + 1, room - 1)
+            after_while(alloc, lexemes, at + 1, room - 1)
         }
         _ => Err(refuse(lexemes, at)),
     }
 }
 
-/// What stands behind `if`, its blocks having so much room in them.
+/// What stands after `if`, its blocks having so much room in them.
 #[tactic(auto, using(c_automaton::proofs::Taking::no_else, c_automaton::proofs::Taking::else_begins))]
 #[cycle(statements)]
-fn behind_if(
+fn following_if(
     alloc: Global,
     lexemes: &[Lexeme<'_>],
     at: usize,
     room: u8,
 ) -> Result<(CStmt, usize), ParseError>
-    ensures reads { IfOk result (λ x. ReadsBehind (t.word If) lexemes.now at x.1
+    ensures reads { IfOk result (λ x. ReadsAfter (t.word If) lexemes.now at x.1
         (stmt_then (stmt_of x.0))) }
     ensures is { IfOk result (λ x. IsStmt language.expressions (room + 1) (stmt_of x.0)) }
     ensures follows { TurnsWhere (WithRoom true room) if_rest [] (λ x. x.1) lexemes.now at result }
@@ -224,15 +224,15 @@ fn behind_if(
     Ok((CStmt::IfElse(condition, body, else_body), next))
 }
 
-/// What stands behind `while`, its block having so much room in it.
+/// What stands after `while`, its block having so much room in it.
 #[cycle(statements)]
-fn behind_while(
+fn after_while(
     alloc: Global,
     lexemes: &[Lexeme<'_>],
     at: usize,
     room: u8,
 ) -> Result<(CStmt, usize), ParseError>
-    ensures reads { IfOk result (λ x. ReadsBehind (t.word While) lexemes.now at x.1
+    ensures reads { IfOk result (λ x. ReadsAfter (t.word While) lexemes.now at x.1
         (stmt_then (stmt_of x.0))) }
     ensures is { IfOk result (λ x. IsStmt language.expressions (room + 1) (stmt_of x.0)) }
     ensures follows { TurnsWhere (WithRoom true room) while_rest [] (λ x. x.1)

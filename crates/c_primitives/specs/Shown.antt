@@ -113,7 +113,7 @@ Comes ts s w before after (Err h) (gives b v) = IsCut w before after h v
 Comes ts s w before after (Ok a) (breaks_rule r) = ⊥
 Comes ts s w before after (Err h) (breaks_rule r) = Broke s w before after h r
 Comes ts s w before after (Ok a) (ends o v) = ⊥
--- the run may end behind what the sink took a part of
+-- the run may end after what the sink took a part of
 Comes ts s w before after (Err h) (ends o v) = HasStopped w before after s.fuel h o v ⊎ IsCut w before after h v
 
 pub record Does (old new : World) (frame : Frame) (before after : Outside) (result : Result (Option Value) Halt) (effect : Vars → model.World → Effect) : Type 0 where

@@ -53,19 +53,19 @@ expr_is (c.cell x) out rest = cell_is x out rest
 expr_is c.null out rest = append_assoc out (codes "vr_null ") (text_of_tokens rest)
 expr_is (c.unary o e) out rest =
     let opened = out ++ codes "( " in
-    let behind = t.sign s.CloseParen ∷ rest in
+    let following = t.sign s.CloseParen ∷ rest in
     append_assoc (expr_laid e (operator_laid (prefix_sign o) opened)) (codes ") ") (text_of_tokens rest)
-    ∙ expr_is e (operator_laid (prefix_sign o) opened) behind
-    ∙ operator_is (prefix_sign o) opened (expr_then e behind)
-    ∙ append_assoc out (codes "( ") (text_of_tokens (t.operator (prefix_sign o) ∷ expr_then e behind))
+    ∙ expr_is e (operator_laid (prefix_sign o) opened) following
+    ∙ operator_is (prefix_sign o) opened (expr_then e following)
+    ∙ append_assoc out (codes "( ") (text_of_tokens (t.operator (prefix_sign o) ∷ expr_then e following))
 expr_is (c.binary o a b) out rest =
     let opened = out ++ codes "( " in
-    let behind = t.sign s.CloseParen ∷ rest in
+    let following = t.sign s.CloseParen ∷ rest in
     append_assoc (expr_laid b (operator_laid o (expr_laid a opened))) (codes ") ") (text_of_tokens rest)
-    ∙ expr_is b (operator_laid o (expr_laid a opened)) behind
-    ∙ operator_is o (expr_laid a opened) (expr_then b behind)
-    ∙ expr_is a opened (t.operator o ∷ expr_then b behind)
-    ∙ append_assoc out (codes "( ") (text_of_tokens (expr_then a (t.operator o ∷ expr_then b behind)))
+    ∙ expr_is b (operator_laid o (expr_laid a opened)) following
+    ∙ operator_is o (expr_laid a opened) (expr_then b following)
+    ∙ expr_is a opened (t.operator o ∷ expr_then b following)
+    ∙ append_assoc out (codes "( ") (text_of_tokens (expr_then a (t.operator o ∷ expr_then b following)))
 
 arg_is : (x : Arg) (out : List ℕ) (rest : List Token) → arg_laid x out ++ text_of_tokens rest ≡ out ++ text_of_tokens (arg_token x ∷ rest)
 arg_is (c.number z) out rest = apart out (signed_decimal z) [] (text_of_tokens rest)
@@ -118,23 +118,23 @@ no_else (c.next (c.return (Some e)) xs) rest h = refl
 mutual
   stmt_is : (x : Stmt) (out : List ℕ) (rest : List Token) → begins_else rest ≡ false → stmt_laid x out ++ text_of_tokens rest ≡ out ++ text_of_tokens (stmt_then x rest)
   stmt_is (c.set v e) out rest none =
-      let behind = t.sign s.Semicolon ∷ rest in
+      let following = t.sign s.Semicolon ∷ rest in
       append_assoc (expr_laid e (variable_laid v out ++ codes " = ")) (codes ";\n") (text_of_tokens rest)
-      ∙ expr_is e (variable_laid v out ++ codes " = ") behind
-      ∙ apart out (variable_letter v ∷ decimal v.number) (codes "= ") (text_of_tokens (expr_then e behind))
+      ∙ expr_is e (variable_laid v out ++ codes " = ") following
+      ∙ apart out (variable_letter v ∷ decimal v.number) (codes "= ") (text_of_tokens (expr_then e following))
   stmt_is (c.set_call v f) out rest none =
-      let behind = t.sign s.Semicolon ∷ rest in
+      let following = t.sign s.Semicolon ∷ rest in
       append_assoc (call_laid f (variable_laid v out ++ codes " = ")) (codes ";\n") (text_of_tokens rest)
-      ∙ call_is f (variable_laid v out ++ codes " = ") behind
-      ∙ apart out (variable_letter v ∷ decimal v.number) (codes "= ") (text_of_tokens (call_then f behind))
+      ∙ call_is f (variable_laid v out ++ codes " = ") following
+      ∙ apart out (variable_letter v ∷ decimal v.number) (codes "= ") (text_of_tokens (call_then f following))
   stmt_is (c.call f) out rest none =
       append_assoc (call_laid f out) (codes ";\n") (text_of_tokens rest) ∙ call_is f out (t.sign s.Semicolon ∷ rest)
   stmt_is (c.put x e) out rest none =
-      let behind = t.sign s.Semicolon ∷ rest in
+      let following = t.sign s.Semicolon ∷ rest in
       append_assoc (expr_laid e (cell_laid x out ++ codes "= ")) (codes ";\n") (text_of_tokens rest)
-      ∙ expr_is e (cell_laid x out ++ codes "= ") behind
-      ∙ append_assoc (cell_laid x out) (codes "= ") (text_of_tokens (expr_then e behind))
-      ∙ cell_is x out (t.sign s.Assign ∷ expr_then e behind)
+      ∙ expr_is e (cell_laid x out ++ codes "= ") following
+      ∙ append_assoc (cell_laid x out) (codes "= ") (text_of_tokens (expr_then e following))
+      ∙ cell_is x out (t.sign s.Assign ∷ expr_then e following)
   stmt_is (c.when e xs) out rest none =
       let opened = out ++ codes "if ( " in
       let inside = t.sign s.CloseBrace ∷ rest in
@@ -165,10 +165,10 @@ mutual
   stmt_is c.continue out rest none = append_assoc out (codes "continue ;\n") (text_of_tokens rest)
   stmt_is (c.return None) out rest none = append_assoc out (codes "return ;\n") (text_of_tokens rest)
   stmt_is (c.return (Some e)) out rest none =
-      let behind = t.sign s.Semicolon ∷ rest in
+      let following = t.sign s.Semicolon ∷ rest in
       append_assoc (expr_laid e (out ++ codes "return ")) (codes ";\n") (text_of_tokens rest)
-      ∙ expr_is e (out ++ codes "return ") behind
-      ∙ append_assoc out (codes "return ") (text_of_tokens (expr_then e behind))
+      ∙ expr_is e (out ++ codes "return ") following
+      ∙ append_assoc out (codes "return ") (text_of_tokens (expr_then e following))
 
   stmts_is : (xs : Stmts) (out : List ℕ) (rest : List Token) → begins_else rest ≡ false → stmts_laid xs out ++ text_of_tokens rest ≡ out ++ text_of_tokens (stmts_then xs rest)
   stmts_is c.done out rest none = refl
@@ -204,10 +204,10 @@ params_is (v ∷ vs) out rest = more_params_is vs (declaration_laid v out) rest 
 head_is : (glue : Bool) (f : Func) (out : List ℕ) (rest : List Token) → head_laid glue f out ++ text_of_tokens rest ≡ out ++ text_of_tokens (head_then (head_of glue f) rest)
 head_is glue f out rest =
     let n : CName = record { glue = glue; number = f.number } in
-    let behind = params_then (map declaration_of f.params) rest in
+    let following = params_then (map declaration_of f.params) rest in
     params_is f.params (name_laid n (result_laid f.result out) ++ codes " ( ") rest
-    ∙ apart (result_laid f.result out) (name_letter n ∷ decimal f.number) (codes "( ") (text_of_tokens behind)
-    ∙ result_is f.result out (t.name n ∷ t.sign s.OpenParen ∷ behind)
+    ∙ apart (result_laid f.result out) (name_letter n ∷ decimal f.number) (codes "( ") (text_of_tokens following)
+    ∙ result_is f.result out (t.name n ∷ t.sign s.OpenParen ∷ following)
 
 vars_is : (vs : List CVar) (out : List ℕ) (rest : List Token) → vars_laid vs out ++ text_of_tokens rest ≡ out ++ text_of_tokens (vars_then (map declaration_of vs) rest)
 vars_is [] out rest = refl

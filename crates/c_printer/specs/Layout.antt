@@ -1,8 +1,8 @@
 -- The text of each part of a program, in the order of the page: what `.._laid` gives goes from the text before the part to the
 -- text after it. Only private contracts cite this.
-use Prim.Native.String.{String}
-use Rattle.std.specs.Prelude.{ℕ, Bool, true, false, List, [], ◌∷◌, ◌++◌, Some, None, codes}
+use Rattle.std.specs.Prelude.{ℕ, Bool, true, false, List, [], ◌∷◌, Some, None}
 use Rattle.std.specs.Fmt.{decimal, signed_decimal}
+use Rattle.vlt_base.specs.Layout.{Layout, ◌▹◌, nothing, written, text}
 use Rattle.vlt_ops.specs.declared.Op.{Op}
 use Rattle.vlt_ops.specs.Operator.{row_of}
 use Rattle.c_syntax.specs.declared.program.CVar.{CVar}
@@ -16,26 +16,6 @@ use Rattle.c_syntax.specs.C.{Expr, Arg, Call, Stmt, Stmts, Func, Program}
 use Rattle.c_syntax.specs.Tokens.{prim_text, variable_letter, name_letter}
 use Rattle.c_syntax.specs.Spelling.{prefix_sign}
 use Rattle.c_syntax.specs.Canonical.{unit_of}
-
--- from the text before a part to the text after it
-abbrev pub Layout : Type 0
-Layout = List ℕ → List ℕ
-
--- one layout, then the next
-infixl 10 ◌▹◌
-abbrev pub ◌▹◌ : Layout → Layout → Layout
-first ▹ next = λ before. next (first before)
-
-abbrev pub nothing : Layout
-nothing before = before
-
--- these bytes
-abbrev pub written : List ℕ → Layout
-written bytes before = before ++ bytes
-
--- these letters
-abbrev pub text : String → Layout
-text letters = written (codes letters)
 
 -- ---- names and expressions
 

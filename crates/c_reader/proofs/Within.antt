@@ -1,7 +1,7 @@
 -- What a refusal names is no further than the text's end.
 use Rattle.std.proofs.Common.{◌≡◌, ◌≤◌, ℕ, zero, suc, List, [], ◌∷◌, length, slice_get, Option, Some, None, Err, sym, subst, arith}
 use Rattle.std.proofs.lemmas.Option.{none-some, same_Some}
-use Rattle.c_syntax.specs.Text.{Lexeme, Piece, AreTokensOf, AreFirst, IsTokensOf, first_pieces, behind, mark, cut_at, before_mark, piece}
+use Rattle.c_syntax.specs.Text.{Lexeme, Piece, AreTokensOf, AreFirst, IsTokensOf, first_pieces, following, mark, cut_at, before_mark, piece}
 use Rattle.c_syntax.specs.Reading.{places_in}
 use Rattle.c_reader.specs.KindsLaws.Laws.{AreWithin}
 use Rattle.c_reader.proofs.OfKindsLaws.Places.{told_within}
@@ -25,7 +25,7 @@ first_within (p ∷ ps) total (b ∷ bs) (l ∷ ls) are =
 
 mark_short : (bs : List ℕ) → length (before_mark bs) ≤ length bs
 mark_short [] = omega arith
-mark_short (b ∷ bs) = by (behind mark (b ∷ bs)) (mark_short bs)
+mark_short (b ∷ bs) = by (following mark (b ∷ bs)) (mark_short bs)
   where
     by : (o : Option (List ℕ)) → length (before_mark bs) ≤ length bs → length (cut_at o (b ∷ before_mark bs)) ≤ suc (length bs)
     by None h = omega (arith, h)

@@ -10,7 +10,7 @@ use vlt_base::Memory as NoMemory;
 /// Why a text stands for no program. A place is the number of bytes before it.
 #[derive(Clone, Copy, Debug, PartialEq, Eq, Error)]
 pub enum CError {
-    /// The first token, or what is none, behind which no program goes on.
+    /// The first token, or what is none, after which no program goes on.
     #[error("no program goes on with this token")]
     Unexpected(u32),
     /// Every token is that of a program, and the text ends before one does.

@@ -15,7 +15,7 @@ use Rattle.c_reader.proofs.OfKindsLaws.Declared.{quiet, kept, declarations_quiet
 use Rattle.c_reader.proofs.OfKindsLaws.Main.{bools_same}
 use Rattle.c_reader_laws.proofs.Judged.{Calm, passes}
 
--- each name is new behind those, and has the type of its letter
+-- each name is new after those, and has the type of its letter
 abbrev pub AreNew : List CVar → List Declaration → Type 0
 AreNew before [] = Unit {0}
 AreNew before (d ∷ ds) = IsTrue (not (is_one_of d.variable before)) × (IsTrue (same_bool d.reference d.variable.reference) × AreNew (d.variable ∷ before) ds)

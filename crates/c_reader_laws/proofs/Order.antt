@@ -114,9 +114,9 @@ order_moves (v ∷ vs) = IsPermutation-trans (v ∷ vs) (v ∷ in_order vs) (put
 apart : (v w : CVar) → precedes v w ≡ true → precedes w v ≡ false
 apart v w h = before_apart v.reference w.reference v.number w.number h
 
-put_behind : (u v : CVar) (ws : List CVar) → precedes v u ≡ false → Rises (u ∷ ws) → Rises (u ∷ put v ws)
-put_behind u v [] h r = (h, tt)
-put_behind u v (w ∷ ws) h r = by (precedes w v) refl (λ e. put_behind w v ws (apart w v e) r.1)
+put_after : (u v : CVar) (ws : List CVar) → precedes v u ≡ false → Rises (u ∷ ws) → Rises (u ∷ put v ws)
+put_after u v [] h r = (h, tt)
+put_after u v (w ∷ ws) h r = by (precedes w v) refl (λ e. put_after w v ws (apart w v e) r.1)
   where
     by : (d : Bool) → precedes w v ≡ d → (precedes w v ≡ true → Rises (w ∷ put v ws)) → Rises (u ∷ (if d then w ∷ put v ws else v ∷ w ∷ ws))
     by true e again = (r.0, again e)
@@ -127,7 +127,7 @@ put_rises v [] r = tt
 put_rises v (w ∷ ws) r = by (precedes w v) refl
   where
     by : (d : Bool) → precedes w v ≡ d → Rises (if d then w ∷ put v ws else v ∷ w ∷ ws)
-    by true e = put_behind w v ws (apart w v e) r
+    by true e = put_after w v ws (apart w v e) r
     by false e = (e, r)
 
 order_rises : (vs : List CVar) → Rises (in_order vs)

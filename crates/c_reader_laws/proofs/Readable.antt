@@ -8,7 +8,7 @@ use Rattle.c_syntax.specs.declared.program.CPrim.{CPrim}
 use Rattle.c_syntax.specs.declared.token.CWord.{CWord}
 use Rattle.c_syntax.specs.Tokens as t
 use Rattle.c_syntax.specs.Tokens.{Token, token_text}
-use Rattle.c_syntax.specs.Text.{is_digit, max_number, with_digit, if_some, digits_after, number_of, is_run_byte, run, past_run, behind, word_of, prim_of, token_or, letter_token, named_token, run_token, is_text_name, Piece, piece, piece_or, first_beginning, signs, sign_piece, quoted_piece, quoted_end, fixed_piece, first_pieces, Lexeme, AreTokensOf, AreFirst, IsTokensOf}
+use Rattle.c_syntax.specs.Text.{is_digit, max_number, with_digit, if_some, digits_after, number_of, is_run_byte, run, past_run, following, word_of, prim_of, token_or, letter_token, named_token, run_token, is_text_name, Piece, piece, piece_or, first_beginning, signs, sign_piece, quoted_piece, quoted_end, fixed_piece, first_pieces, Lexeme, AreTokensOf, AreFirst, IsTokensOf}
 use Rattle.c_syntax.specs.Reading.{tokens_in}
 use Rattle.c_syntax.specs.Canonical.{EachIs, IsReadable, AreReadable}
 
@@ -87,7 +87,7 @@ abbrev chosen : Bool → Piece → Piece → Piece
 chosen d x y = if d then x else y
 
 quoted_readable : (bs : List ℕ) → IsReadable ((quoted_piece bs).0)
-quoted_readable bs = by (behind (34 ∷ []) (past_run is_run_byte bs))
+quoted_readable bs = by (following (34 ∷ []) (past_run is_run_byte bs))
   where
     name : (cs after : List ℕ) (d : Bool) → is_text_name cs ≡ d → EachIs is_run_byte cs → IsReadable ((chosen d (t.text cs, after) (t.stray, bs)).0)
     name cs after true e each = (e, each)
@@ -99,7 +99,7 @@ quoted_readable bs = by (behind (34 ∷ []) (past_run is_run_byte bs))
 
 begun_readable : (ts : List Token) (bs : List ℕ) (other : Piece) → AreReadable ts → IsReadable (other.0) → IsReadable ((first_beginning ts bs other).0)
 begun_readable [] bs other are is = is
-begun_readable (x ∷ ts) bs other are is = by (behind (token_text x) bs) (begun_readable ts bs other are.1 is)
+begun_readable (x ∷ ts) bs other are is = by (following (token_text x) bs) (begun_readable ts bs other are.1 is)
   where
     by : (o : Option (List ℕ)) → IsReadable ((first_beginning ts bs other).0) → IsReadable ((piece_or x o (first_beginning ts bs other)).0)
     by None rest = rest

@@ -240,9 +240,9 @@ main_right n (x ∷ xs) ys main = or_right (is_main n x) (has_main n (xs ++ ys))
 pub kinds_again : (places : List ℕ) (u : TranslationUnit) (p : Program) → k.unit_refusal places u ≡ None → IsProgramOf u p → (others : List ℕ) → k.unit_refusal others (unit_of p) ≡ None
 kinds_again places u p none is others =
     let begin : Walk = k.skip 2 (k.main_judged u (k.skip 3 (record { places = places; least = None }))) in
-    let behind : Walk = k.heads_judged (heads_of u.bodies) [] u.heads begin in
-    let are : AreKept u.heads u.bodies = bodies_kept u.heads [] u.bodies behind none in
-    let hs = heads_are (heads_of u.bodies) [] u.heads begin (bodies_good u.heads [] u.bodies behind none).before in
+    let following : Walk = k.heads_judged (heads_of u.bodies) [] u.heads begin in
+    let are : AreKept u.heads u.bodies = bodies_kept u.heads [] u.bodies following none in
+    let hs = heads_are (heads_of u.bodies) [] u.heads begin (bodies_good u.heads [] u.bodies following none).before in
     let all : List Head = split_heads u.bodies in
     let apart : Apart [] all = split_apart u.bodies (bodies_apart [] u.bodies (names_apart places u none)) in
     let found : (f : CName) → head_of f u.heads ≡ head_of f all =

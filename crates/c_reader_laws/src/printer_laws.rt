@@ -5,7 +5,7 @@
 ghost use Rattle.c_reader_laws.specs.PrinterLaws.ReadAgain.{AreReadAgain};
 ghost use Rattle.c_reader_laws.specs.PrinterLaws.SizeLaws.{ListsAreSums, SizesAreLengths};
 
-/// The canonical text of a program is a text of that program, alone and with a certificate behind it.
+/// The canonical text of a program is a text of that program, alone and with a certificate after it.
 pub fn canonical_texts_are_read_again()
     ensures { AreReadAgain }
 {}

@@ -51,7 +51,7 @@ line_feed = 10 ∷ []
 abbrev pub space : List ℕ
 space = 32 ∷ []
 
--- what stands behind a token: a line ends with `;`, `{` and `}`, but `} else {` is one line
+-- what stands after a token: a line ends with `;`, `{` and `}`, but `} else {` is one line
 abbrev pub gap : Token → List Token → List ℕ
 gap (t.sign s.Semicolon) rest = line_feed
 gap (t.sign s.OpenBrace) rest = line_feed

@@ -223,7 +223,7 @@ abbrev pub arg_judged : Scope → Arg → Walk → Walk
 arg_judged scope (c.variable v) = variable_judged scope v
 arg_judged scope _ = skip 1
 
--- arguments with a comma or the parenthesis behind each
+-- arguments with a comma or the parenthesis after each
 abbrev pub each_arg_judged : Scope → List Arg → Walk → Walk
 each_arg_judged scope [] = nothing
 each_arg_judged scope (x ∷ xs) = arg_judged scope x ▹ skip 1 ▹ each_arg_judged scope xs
@@ -309,7 +309,7 @@ result_width result.Nothing = 1
 result_width result.Number = 2
 result_width result.Reference = 1
 
--- declarations with a sign behind each, after those names
+-- declarations with a sign after each, after those names
 abbrev pub declarations_judged : List CVar → List Declaration → Walk → Walk
 declarations_judged before [] = nothing
 declarations_judged before (d ∷ ds) =

@@ -67,24 +67,24 @@ within_blocks b = b.blocks ≤ language.blocks
 abbrev pub within_expressions : Bounds → Type 0
 within_expressions b = b.expressions ≤ language.expressions
 
--- a text within the limits goes on up to this token, and none behind it
+-- a text within the limits goes on up to this token, and none after it
 pub record IsLastOf (ts : List Token) (i : ℕ) : Type 0 where
   pub inside : i < length ts
   pub before : Continues within_limits (take i ts)
-  pub behind : Continues within_limits (take (suc i) ts) → ⊥
+  pub following : Continues within_limits (take (suc i) ts) → ⊥
 
--- no text at all goes on behind this token
+-- no text at all goes on after this token
 pub record IsUnexpectedAt (ts : List Token) (i : ℕ) : Type 0 where
   pub last : IsLastOf ts i
   pub none : Continues any_size (take (suc i) ts) → ⊥
 
--- each text that goes on behind this token exceeds the limit
+-- each text that goes on after this token exceeds the limit
 pub record IsOverLimitAt (kept : Bounds → Type 0) (ts : List Token) (i : ℕ) : Type 0 where
   pub last : IsLastOf ts i
   pub some : Continues any_size (take (suc i) ts)
   pub none : Continues kept (take (suc i) ts) → ⊥
 
--- a text within the limits goes on behind all tokens, and they are none of any size
+-- a text within the limits goes on after all tokens, and they are none of any size
 pub record IsCutShort (ts : List Token) : Type 0 where
   pub some : Continues within_limits ts
   pub none : (b : Bounds) (u : TranslationUnit) → IsUnit b u → spelling u ≡ ts → ⊥

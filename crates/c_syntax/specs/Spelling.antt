@@ -55,7 +55,7 @@ arg_token (c.variable v) = t.variable v
 arg_token c.null = t.word w.Null
 arg_token (c.text cs) = t.text cs
 
--- behind one argument: the others, and the closing parenthesis
+-- after one argument: the others, and the closing parenthesis
 abbrev pub more_args_then : List Arg → List Token → List Token
 more_args_then [] rest = t.sign s.CloseParen ∷ rest
 more_args_then (x ∷ xs) rest = t.sign s.Comma ∷ arg_token x ∷ more_args_then xs rest
@@ -90,7 +90,7 @@ abbrev mutual
 
 -- ---- functions
 
--- behind one parameter: the others, and the closing parenthesis
+-- after one parameter: the others, and the closing parenthesis
 abbrev pub more_params_then : List Declaration → List Token → List Token
 more_params_then [] rest = t.sign s.CloseParen ∷ rest
 more_params_then (d ∷ ds) rest = t.sign s.Comma ∷ declaration_then d (more_params_then ds rest)
@@ -117,7 +117,7 @@ abbrev pub bodies_then : List Body → List Token → List Token
 bodies_then [] rest = rest
 bodies_then (b ∷ bs) rest = body_then b (bodies_then bs rest)
 
--- behind the two first lines
+-- after the two first lines
 abbrev pub functions_then : TranslationUnit → List Token → List Token
 functions_then u rest = heads_then u.heads (bodies_then u.bodies rest)
 

@@ -23,7 +23,7 @@ is_digit b = nat_le 48 b && nat_le b 57
 abbrev pub is_run_byte : ℕ → Bool
 is_run_byte b = is_digit b || (nat_le 65 b && nat_le b 90) || (nat_le 97 b && nat_le b 122) || (b == 95)
 
--- the bytes up to the first that isn't of the class, and what stands behind them
+-- the bytes up to the first that isn't of the class, and what stands after them
 abbrev pub run : (ℕ → Bool) → List ℕ → List ℕ
 run is [] = []
 run is (b ∷ bs) = if is b then b ∷ run is bs else []
@@ -32,11 +32,11 @@ abbrev pub past_run : (ℕ → Bool) → List ℕ → List ℕ
 past_run is [] = []
 past_run is (b ∷ bs) = if is b then past_run is bs else b ∷ bs
 
--- what stands behind these bytes, where the text begins with them
-abbrev pub behind : List ℕ → List ℕ → Option (List ℕ)
-behind [] bs = Some bs
-behind (f ∷ fs) [] = None
-behind (f ∷ fs) (b ∷ bs) = if f == b then behind fs bs else None
+-- what stands after these bytes, where the text begins with them
+abbrev pub following : List ℕ → List ℕ → Option (List ℕ)
+following [] bs = Some bs
+following (f ∷ fs) [] = None
+following (f ∷ fs) (b ∷ bs) = if f == b then following fs bs else None
 
 -- ---- runs
 
@@ -51,7 +51,7 @@ abbrev pub if_some : Option ℕ → (ℕ → Option ℕ) → Option ℕ
 if_some None next = None
 if_some (Some n) next = next n
 
--- the number that digits make behind those of this one
+-- the number that digits make after those of this one
 abbrev pub digits_after : ℕ → List ℕ → Option ℕ
 digits_after n [] = Some n
 digits_after n (b ∷ bs) = if_some (with_digit n b) (λ m. digits_after m bs)
@@ -99,11 +99,11 @@ run_token bs =
 
 -- ---- pieces
 
--- a token, and what stands behind it
+-- a token, and what stands after it
 abbrev pub Piece : Type 0
 Piece = Token × List ℕ
 
--- the name in quotes that stands behind a quote; else the quote is no token
+-- the name in quotes that stands after a quote; else the quote is no token
 abbrev pub is_text_name : List ℕ → Bool
 is_text_name [] = false
 is_text_name (b ∷ bs) = not (is_digit b)
@@ -113,7 +113,7 @@ quoted_end cs None bs = (stray, bs)
 quoted_end cs (Some after) bs = if is_text_name cs then (text cs, after) else (stray, bs)
 
 abbrev pub quoted_piece : List ℕ → Piece
-quoted_piece bs = quoted_end (run is_run_byte bs) (behind (34 ∷ []) (past_run is_run_byte bs)) bs
+quoted_piece bs = quoted_end (run is_run_byte bs) (following (34 ∷ []) (past_run is_run_byte bs)) bs
 
 -- all signs, the longer ones first
 abbrev pub signs : List Token
@@ -130,7 +130,7 @@ piece_or t (Some after) other = (t, after)
 -- the first of these that begins the text; else its first byte is no token
 abbrev pub first_beginning : List Token → List ℕ → Piece → Piece
 first_beginning [] bs other = other
-first_beginning (t ∷ ts) bs other = piece_or t (behind (token_text t) bs) (first_beginning ts bs other)
+first_beginning (t ∷ ts) bs other = piece_or t (following (token_text t) bs) (first_beginning ts bs other)
 
 unfoldable pub sign_piece : List ℕ → List ℕ → Piece
 sign_piece bs after = first_beginning signs bs (stray, after)
@@ -187,4 +187,4 @@ cut_at (Some _) before = []
 -- the text before the first mark
 abbrev pub before_mark : List ℕ → List ℕ
 before_mark [] = []
-before_mark (b ∷ bs) = cut_at (behind mark (b ∷ bs)) (b ∷ before_mark bs)
+before_mark (b ∷ bs) = cut_at (following mark (b ∷ bs)) (b ∷ before_mark bs)

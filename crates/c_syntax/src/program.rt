@@ -20,7 +20,7 @@ pub struct CProgram {
 /// A function: `long long f0 ( long long n0 ) { vr_ref p0 ; return n0 ; }`.
 #[derive(Drop)]
 pub struct CFunc {
-    /// The number behind the letter of its name.
+    /// The number after the letter of its name.
     pub number: u64,
     pub result: CResult,
     /// The parameters, in the order of the text.

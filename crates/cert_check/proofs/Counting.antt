@@ -45,9 +45,9 @@ module _ (hi : ℕ) where
         let k = map_after rs h in
         join (row_tests n rs h) _ (rows n rs h lt)
         (join (block_tests a l n (n + 1) k s) _ (blocks a l n (n + 1) k s lt (omega (arith, few)))
-        (join (below_tests n (leads_block a (n + 1) k s) (a.behind n)) _ (belows n _ _ lt)
+        (join (below_tests n (leads_block a (n + 1) k s) (a.following n)) _ (belows n _ _ lt)
         (join (block_tests a l n (n + 1 + size_block s) k t) _ (blocks a l n (n + 1 + size_block s) k t lt (omega (arith, few)))
-        (belows n (leads_block a (n + 1 + size_block s) k t) (a.behind n) lt))))
+        (belows n (leads_block a (n + 1 + size_block s) k t) (a.following n) lt))))
     form a l n h (loop rs s) few =
         let lt : n < hi = omega (arith, few) in
         let k = map_after rs (a.around n) in (
@@ -57,7 +57,7 @@ module _ (hi : ℕ) where
         )
     form a l n h (switch rs arms end) few =
         let lt : n < hi = omega (arith, few) in
-        join (row_tests n rs h) _ (rows n rs h lt) (arms_below a l n (n + 1) (map_after rs h) arms (a.behind n) lt (omega (arith, few)))
+        join (row_tests n rs h) _ (rows n rs h lt) (arms_below a l n (n + 1) (map_after rs h) arms (a.following n) lt (omega (arith, few)))
     form a l n h (scope s) few = blocks a l n (n + 1) h s (omega (arith, few)) (omega (arith, few))
     form a l n h (focus rs s es) few =
         let lt : n < hi = omega (arith, few) in

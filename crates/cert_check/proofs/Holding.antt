@@ -64,12 +64,12 @@ mutual
   holds a l n h (choose rs s u) t =
       let t1 = right (row_tests n rs h) _ t in
       let t2 = right (block_tests a l n (n + 1) (map_after rs h) s) _ t1 in
-      let t3 = right (below_tests n (leads_block a (n + 1) (map_after rs h) s) (a.behind n)) _ t2 in (
+      let t3 = right (below_tests n (leads_block a (n + 1) (map_after rs h) s) (a.following n)) _ t2 in (
         passed n rs h (left (row_tests n rs h) _ t),
         holds_block a l n (n + 1) (map_after rs h) s (left (block_tests a l n (n + 1) (map_after rs h) s) _ t1),
         holds_block a l n (n + 1 + size_block s) (map_after rs h) u (left (block_tests a l n (n + 1 + size_block s) (map_after rs h) u) _ t3),
-        below n _ (a.behind n) (left (below_tests n (leads_block a (n + 1) (map_after rs h) s) (a.behind n)) _ t2),
-        below n _ (a.behind n) (right (block_tests a l n (n + 1 + size_block s) (map_after rs h) u) _ t3),
+        below n _ (a.following n) (left (below_tests n (leads_block a (n + 1) (map_after rs h) s) (a.following n)) _ t2),
+        below n _ (a.following n) (right (block_tests a l n (n + 1 + size_block s) (map_after rs h) u) _ t3),
       )
   holds a l n h (loop rs s) t =
       let t1 = right (row_tests n rs (a.around n)) _ t.1 in (
@@ -80,7 +80,7 @@ mutual
         below n _ (a.around n) (right (block_tests a (Some n) n (n + 1) (map_after rs (a.around n)) s) _ t1.1),
       )
   holds a l n h (switch rs arms end) t =
-      (passed n rs h (left (row_tests n rs h) _ t), holds_arms a l n (n + 1) (map_after rs h) arms (a.behind n) (right (row_tests n rs h) _ t))
+      (passed n rs h (left (row_tests n rs h) _ t), holds_arms a l n (n + 1) (map_after rs h) arms (a.following n) (right (row_tests n rs h) _ t))
   holds a l n h (scope s) t = holds_block a l n (n + 1) h s t
   holds a l n h (focus rs s es) t =
       let t1 = right (row_tests n rs h) _ t in (
@@ -126,14 +126,14 @@ mutual
   tested a l n h (choose rs s u) t =
       both (row_tests n rs h) _ (passes n rs h t.0)
       (both (block_tests a l n (n + 1) (map_after rs h) s) _ (tested_block a l n (n + 1) (map_after rs h) s t.1)
-      (both (below_tests n (leads_block a (n + 1) (map_after rs h) s) (a.behind n)) _ (belows n _ (a.behind n) t.3)
-      (both (block_tests a l n (n + 1 + size_block s) (map_after rs h) u) _ (tested_block a l n (n + 1 + size_block s) (map_after rs h) u t.2) (belows n _ (a.behind n) t.4))))
+      (both (below_tests n (leads_block a (n + 1) (map_after rs h) s) (a.following n)) _ (belows n _ (a.following n) t.3)
+      (both (block_tests a l n (n + 1 + size_block s) (map_after rs h) u) _ (tested_block a l n (n + 1 + size_block s) (map_after rs h) u t.2) (belows n _ (a.following n) t.4))))
   tested a l n h (loop rs s) t = (
     t.0,
     both (row_tests n rs (a.around n)) _ (passes n rs (a.around n) t.1)
         (t.2, both (block_tests a (Some n) n (n + 1) (map_after rs (a.around n)) s) _ (tested_block a (Some n) n (n + 1) (map_after rs (a.around n)) s t.3) (belows n _ (a.around n) t.4)),
   )
-  tested a l n h (switch rs arms end) t = both (row_tests n rs h) _ (passes n rs h t.0) (tested_arms a l n (n + 1) (map_after rs h) arms (a.behind n) t.1)
+  tested a l n h (switch rs arms end) t = both (row_tests n rs h) _ (passes n rs h t.0) (tested_arms a l n (n + 1) (map_after rs h) arms (a.following n) t.1)
   tested a l n h (scope s) t = tested_block a l n (n + 1) h s t
   tested a l n h (focus rs s es) t =
       both (row_tests n rs h) _ (passes n rs h t.0)

@@ -15,7 +15,7 @@ use Rattle.cert_check.specs.Outcomes.{HasOutcomeUnless, AreTestedUnless}
 use Rattle.cert_check.specs.Unfit.{IsUnfitBody, IsUnfitFunc, no_instance, body}
 use Rattle.cert_check.specs.declared.errors.Stop.{Stop}
 use Rattle.cert_check.specs.declared.errors.Stop.TheVariants.{Refused, Unfit, Memory}
-use Rattle.cert_check.proofs.Sequences.{IsRest, first_here, rest_all, rest_behind, rest_trans}
+use Rattle.cert_check.proofs.Sequences.{IsRest, first_here, rest_all, rest_after, rest_trans}
 use Rattle.cert_check.proofs.Sizes.{body_size}
 
 split_at : {X : Type 0} (xs : List X) (i : ℕ) (x : X) → i < length xs → x ≡ get_or xs i x → drop i xs ≡ x ∷ drop (i + 1) xs
@@ -81,7 +81,7 @@ module _ (p : Program) (f : Func) (notes : List Note) (os : List (Option ℕ)) w
         Testing p f notes os (i + 1) (Some n)
     testing_more n told = record {
       is = t.is;
-      rest = rest_trans _ _ _ (rest_behind (go (i, o)) (flat_map go (enumerate_from (i + 1) (drop (i + 1) os))) told.outcome.0) left_tests;
+      rest = rest_trans _ _ _ (rest_after (go (i, o)) (flat_map go (enumerate_from (i + 1) (drop (i + 1) os))) told.outcome.0) left_tests;
       counted = (told.outcome.1.0 ∙ body_size p f o, told.outcome.1.1);
       none = λ e. some_none e;
     }

@@ -17,7 +17,7 @@ use Rattle.cert_check.specs.declared.walking.Walked.{Walked}
 use Rattle.cert_check.specs.declared.walking.Way.{Way}
 use Rattle.cert_check.specs.Outcomes.{AreTested}
 use Rattle.cert_check.specs.Walks.{IsLed, IsWay, IsWayOf, comes_out, way_tests, turn_tests, arm_tests, jump_side}
-use Rattle.cert_check.proofs.Sequences.{rest_all, rest_behind, rest_trans, hold_both, first_here, first_behind, onward}
+use Rattle.cert_check.proofs.Sequences.{rest_all, rest_after, rest_trans, hold_both, first_here, first_after, onward}
 
 pub led_comes : (w : Walked) (h : Statuses) (n : ℕ) (o : Option HeldMap) → w.held ≡ Some h → w.at ≡ n → Some (map_of h) ≡ o → IsLed o n w
 led_comes w h n o held at is = record { leads = ap maybe_map held ∙ is; at = at }
@@ -40,11 +40,11 @@ pub jumped : (r : Result (Unit {0}) Stop) (a : Notes) (o : Option ℕ) (l : ℕ)
     AreTested r (below_test n k (map_at s a l) ∷ []) (λ u. Unit {0}) → AreTested r (row_tests n rs h ++ jump_tests a o c n (map_after rs h)) (λ u. Unit {0})
 jumped r a o l c n rs h k s is side after held told =
     let tests = ap (λ s. below_test n k (map_at s a l) ∷ []) side ∙ jump_is a l c n k ∙ ap (jump_tests a (Some l) c n) after ∙ ap (λ o. jump_tests a o c n (map_after rs h)) (sym is) in
-    onward r _ _ (subst (λ ts. AreTested r ts (λ u. Unit {0})) tests told) (rest_behind (row_tests n rs h) _ held) (λ x p. p)
+    onward r _ _ (subst (λ ts. AreTested r ts (λ u. Unit {0})) tests told) (rest_after (row_tests n rs h) _ held) (λ x p. p)
 
 -- one that no loop is around
 pub jump_lost : (a : Notes) (o : Option ℕ) (c : Bool) (n : ℕ) (rs : List Row) (h : HeldMap) → o ≡ None → Hold (row_tests n rs h) → FirstFails (row_tests n rs h ++ jump_tests a o c n (map_after rs h)) lost
-jump_lost a o c n rs h is held = first_behind (row_tests n rs h) _ lost held (subst (λ o. FirstFails (jump_tests a o c n (map_after rs h)) lost) (sym is) (inl tt))
+jump_lost a o c n rs h is held = first_after (row_tests n rs h) _ lost held (subst (λ o. FirstFails (jump_tests a o c n (map_after rs h)) lost) (sym is) (inl tt))
 
 -- ---- ways
 
@@ -62,53 +62,53 @@ pub way_tested : (r : Result Way Stop) (a : Notes) (l : Option ℕ) (s : Side) (
 way_tested r a l s k n h b w held led told =
     onward r (below_tests k (leads_block a n h b) (map_at s a k)) _
     (subst (λ o. AreTested r (below_tests k o (map_at s a k)) (IsWayOf o w.at)) led.leads told)
-    (rest_behind (block_tests a l k n h b) _ held)
+    (rest_after (block_tests a l k n h b) _ held)
     (λ x p. record { passes = p.passes ∙ out_passes (passes_block b) (leads_block a n h b) (leads_block_some b a n h); at = p.at ∙ led.at })
 
 -- ---- choices
 
 module _ (a : Notes) (l : Option ℕ) (n : ℕ) (h : HeldMap) (rs : List Row) (s t : Block) where
-  choose_is : row_tests n rs h ++ (way_tests a l side.Behind n (n + 1) (map_after rs h) s ++ way_tests a l side.Behind n (n + 1 + size_block s) (map_after rs h) t) ≡ tests a l n h (choose rs s t)
-  choose_is = ap (λ l. row_tests n rs h ++ l) (assoc (block_tests a l n (n + 1) (map_after rs h) s) (below_tests n (leads_block a (n + 1) (map_after rs h) s) (a.behind n)) (way_tests a l side.Behind n (n + 1 + size_block s) (map_after rs h) t))
+  choose_is : row_tests n rs h ++ (way_tests a l side.Following n (n + 1) (map_after rs h) s ++ way_tests a l side.Following n (n + 1 + size_block s) (map_after rs h) t) ≡ tests a l n h (choose rs s t)
+  choose_is = ap (λ l. row_tests n rs h ++ l) (assoc (block_tests a l n (n + 1) (map_after rs h) s) (below_tests n (leads_block a (n + 1) (map_after rs h) s) (a.following n)) (way_tests a l side.Following n (n + 1 + size_block s) (map_after rs h) t))
 
-  pub choose_first : (k : HeldMap) → Hold (row_tests n rs h) → k ≡ map_after rs h → (z : Failure) → FirstFails (way_tests a l side.Behind n (n + 1) k s) z → FirstFails (tests a l n h (choose rs s t)) z
+  pub choose_first : (k : HeldMap) → Hold (row_tests n rs h) → k ≡ map_after rs h → (z : Failure) → FirstFails (way_tests a l side.Following n (n + 1) k s) z → FirstFails (tests a l n h (choose rs s t)) z
   choose_first k held is z f =
-      subst (λ ts. FirstFails ts z) choose_is (first_behind (row_tests n rs h) _ z held (first_here _ _ z (subst (λ k. FirstFails (way_tests a l side.Behind n (n + 1) k s) z) is f)))
+      subst (λ ts. FirstFails ts z) choose_is (first_after (row_tests n rs h) _ z held (first_here _ _ z (subst (λ k. FirstFails (way_tests a l side.Following n (n + 1) k s) z) is f)))
 
-  pub choose_second : (k j : HeldMap) (m : ℕ) → Hold (row_tests n rs h) → k ≡ map_after rs h → j ≡ map_after rs h → m ≡ n + 1 + size_block s → Hold (way_tests a l side.Behind n (n + 1) k s) → (z : Failure) → FirstFails (way_tests a l side.Behind n m j t) z → FirstFails (tests a l n h (choose rs s t)) z
+  pub choose_second : (k j : HeldMap) (m : ℕ) → Hold (row_tests n rs h) → k ≡ map_after rs h → j ≡ map_after rs h → m ≡ n + 1 + size_block s → Hold (way_tests a l side.Following n (n + 1) k s) → (z : Failure) → FirstFails (way_tests a l side.Following n m j t) z → FirstFails (tests a l n h (choose rs s t)) z
   choose_second k j m held is same at first z f =
-      subst (λ ts. FirstFails ts z) choose_is (first_behind (row_tests n rs h) _ z held
-      (first_behind (way_tests a l side.Behind n (n + 1) (map_after rs h) s) _ z (subst (λ k. Hold (way_tests a l side.Behind n (n + 1) k s)) is first)
-      (subst (λ m. FirstFails (way_tests a l side.Behind n m (map_after rs h) t) z) at (subst (λ j. FirstFails (way_tests a l side.Behind n m j t) z) same f))))
+      subst (λ ts. FirstFails ts z) choose_is (first_after (row_tests n rs h) _ z held
+      (first_after (way_tests a l side.Following n (n + 1) (map_after rs h) s) _ z (subst (λ k. Hold (way_tests a l side.Following n (n + 1) k s)) is first)
+      (subst (λ m. FirstFails (way_tests a l side.Following n m (map_after rs h) t) z) at (subst (λ j. FirstFails (way_tests a l side.Following n m j t) z) same f))))
 
-  pub choose_tested : (r : Result Walked Stop) (k j : HeldMap) (m e : ℕ) (p : Bool) → Hold (row_tests n rs h) → k ≡ map_after rs h → j ≡ map_after rs h → m ≡ n + 1 + size_block s → Hold (way_tests a l side.Behind n (n + 1) k s) → Hold (way_tests a l side.Behind n m j t) →
-      p ≡ (passes_block s || passes_block t) → e ≡ m + size_block t → AreTested r [] (IsLed (only_if p (a.behind n)) e) → AreTested r (tests a l n h (choose rs s t)) (IsLed (leads a n h (choose rs s t)) (n + size (choose rs s t)))
+  pub choose_tested : (r : Result Walked Stop) (k j : HeldMap) (m e : ℕ) (p : Bool) → Hold (row_tests n rs h) → k ≡ map_after rs h → j ≡ map_after rs h → m ≡ n + 1 + size_block s → Hold (way_tests a l side.Following n (n + 1) k s) → Hold (way_tests a l side.Following n m j t) →
+      p ≡ (passes_block s || passes_block t) → e ≡ m + size_block t → AreTested r [] (IsLed (only_if p (a.following n)) e) → AreTested r (tests a l n h (choose rs s t)) (IsLed (leads a n h (choose rs s t)) (n + size (choose rs s t)))
   choose_tested r k j m e p held is same at first second passes end told =
       onward r [] _ told (record {
-        hold = λ u. subst Hold choose_is (hold_both (row_tests n rs h) _ held (hold_both (way_tests a l side.Behind n (n + 1) (map_after rs h) s) _ (subst (λ k. Hold (way_tests a l side.Behind n (n + 1) k s)) is first)
-            (subst (λ m. Hold (way_tests a l side.Behind n m (map_after rs h) t)) at (subst (λ j. Hold (way_tests a l side.Behind n m j t)) same second))));
+        hold = λ u. subst Hold choose_is (hold_both (row_tests n rs h) _ held (hold_both (way_tests a l side.Following n (n + 1) (map_after rs h) s) _ (subst (λ k. Hold (way_tests a l side.Following n (n + 1) k s)) is first)
+            (subst (λ m. Hold (way_tests a l side.Following n m (map_after rs h) t)) at (subst (λ j. Hold (way_tests a l side.Following n m j t)) same second))));
         first = λ z f. absurd f;
-      }) (λ w q. record { leads = q.leads ∙ ap (λ p. only_if p (a.behind n)) passes; at = omega (arith, q.at, end, at) })
+      }) (λ w q. record { leads = q.leads ∙ ap (λ p. only_if p (a.following n)) passes; at = omega (arith, q.at, end, at) })
 
 -- ---- loops
 
 module _ (a : Notes) (n : ℕ) (h : HeldMap) (rs : List Row) (s : Block) (k : HeldMap) (held : Hold (row_tests n rs h)) (is : k ≡ map_after rs h) where
-  pub turn_exit : (z : Failure) → FirstFails (below_test n k (a.behind n) ∷ []) z → FirstFails (turn_tests a n h rs s) z
-  turn_exit z f = first_behind (row_tests n rs h) _ z held
-      (first_here (below_test n (map_after rs h) (a.behind n) ∷ []) (way_tests a (Some n) side.Around n (n + 1) (map_after rs h) s) z (subst (λ k. FirstFails (below_test n k (a.behind n) ∷ []) z) is f))
+  pub turn_exit : (z : Failure) → FirstFails (below_test n k (a.following n) ∷ []) z → FirstFails (turn_tests a n h rs s) z
+  turn_exit z f = first_after (row_tests n rs h) _ z held
+      (first_here (below_test n (map_after rs h) (a.following n) ∷ []) (way_tests a (Some n) side.Around n (n + 1) (map_after rs h) s) z (subst (λ k. FirstFails (below_test n k (a.following n) ∷ []) z) is f))
 
-  pub turn_body : Hold (below_test n k (a.behind n) ∷ []) → (z : Failure) → FirstFails (way_tests a (Some n) side.Around n (n + 1) k s) z → FirstFails (turn_tests a n h rs s) z
-  turn_body exit z f = first_behind (row_tests n rs h) _ z held
-      (first_behind (below_test n (map_after rs h) (a.behind n) ∷ []) (way_tests a (Some n) side.Around n (n + 1) (map_after rs h) s) z (subst (λ k. Hold (below_test n k (a.behind n) ∷ [])) is exit)
+  pub turn_body : Hold (below_test n k (a.following n) ∷ []) → (z : Failure) → FirstFails (way_tests a (Some n) side.Around n (n + 1) k s) z → FirstFails (turn_tests a n h rs s) z
+  turn_body exit z f = first_after (row_tests n rs h) _ z held
+      (first_after (below_test n (map_after rs h) (a.following n) ∷ []) (way_tests a (Some n) side.Around n (n + 1) (map_after rs h) s) z (subst (λ k. Hold (below_test n k (a.following n) ∷ [])) is exit)
       (subst (λ k. FirstFails (way_tests a (Some n) side.Around n (n + 1) k s) z) is f))
 
-  pub turn_held : Hold (below_test n k (a.behind n) ∷ []) → Hold (way_tests a (Some n) side.Around n (n + 1) k s) → Hold (turn_tests a n h rs s)
+  pub turn_held : Hold (below_test n k (a.following n) ∷ []) → Hold (way_tests a (Some n) side.Around n (n + 1) k s) → Hold (turn_tests a n h rs s)
   turn_held exit way = hold_both (row_tests n rs h) _ held
-      (hold_both (below_test n (map_after rs h) (a.behind n) ∷ []) (way_tests a (Some n) side.Around n (n + 1) (map_after rs h) s) (subst (λ k. Hold (below_test n k (a.behind n) ∷ [])) is exit)
+      (hold_both (below_test n (map_after rs h) (a.following n) ∷ []) (way_tests a (Some n) side.Around n (n + 1) (map_after rs h) s) (subst (λ k. Hold (below_test n k (a.following n) ∷ [])) is exit)
       (subst (λ k. Hold (way_tests a (Some n) side.Around n (n + 1) k s)) is way))
 
 pub loop_turn : (a : Notes) (l : Option ℕ) (n : ℕ) (h : HeldMap) (rs : List Row) (s : Block) (k : HeldMap) → Hold (below_test n h (a.around n) ∷ []) → k ≡ a.around n → (z : Failure) → FirstFails (turn_tests a n k rs s) z → FirstFails (tests a l n h (loop rs s)) z
-loop_turn a l n h rs s k entry is z f = first_behind (below_test n h (a.around n) ∷ []) (turn_tests a n (a.around n) rs s) z entry (subst (λ k. FirstFails (turn_tests a n k rs s) z) is f)
+loop_turn a l n h rs s k entry is z f = first_after (below_test n h (a.around n) ∷ []) (turn_tests a n (a.around n) rs s) z entry (subst (λ k. FirstFails (turn_tests a n k rs s) z) is f)
 
 pub loop_held : (a : Notes) (l : Option ℕ) (n : ℕ) (h : HeldMap) (rs : List Row) (s : Block) (k : HeldMap) → Hold (below_test n h (a.around n) ∷ []) → k ≡ a.around n → Hold (turn_tests a n k rs s) → Hold (tests a l n h (loop rs s))
 loop_held a l n h rs s k entry is t = hold_both (below_test n h (a.around n) ∷ []) (turn_tests a n (a.around n) rs s) entry (subst (λ k. Hold (turn_tests a n k rs s)) is t)
@@ -116,11 +116,11 @@ loop_held a l n h rs s k entry is t = hold_both (below_test n h (a.around n) ∷
 -- ---- arms
 
 module _ (a : Notes) (l : Option ℕ) (e n : ℕ) (h : HeldMap) (rs : List Row) (s : Block) (k : HeldMap) (held : Hold (row_tests e rs h)) (is : k ≡ map_after rs h) where
-  pub arm_way : (z : Failure) → FirstFails (way_tests a l side.Behind e n k s) z → FirstFails (arm_tests a l e n h (rs, s)) z
-  arm_way z f = first_behind (row_tests e rs h) _ z held (subst (λ k. FirstFails (way_tests a l side.Behind e n k s) z) is f)
+  pub arm_way : (z : Failure) → FirstFails (way_tests a l side.Following e n k s) z → FirstFails (arm_tests a l e n h (rs, s)) z
+  arm_way z f = first_after (row_tests e rs h) _ z held (subst (λ k. FirstFails (way_tests a l side.Following e n k s) z) is f)
 
-  pub arm_held : Hold (way_tests a l side.Behind e n k s) → Hold (arm_tests a l e n h (rs, s))
-  arm_held w = hold_both (row_tests e rs h) _ held (subst (λ k. Hold (way_tests a l side.Behind e n k s)) is w)
+  pub arm_held : Hold (way_tests a l side.Following e n k s) → Hold (arm_tests a l e n h (rs, s))
+  arm_held w = hold_both (row_tests e rs h) _ held (subst (λ k. Hold (way_tests a l side.Following e n k s)) is w)
 
 -- ---- blocks and single statements
 
@@ -130,17 +130,17 @@ pub block_tested : (r : Result Walked Stop) (a : Notes) (l : Option ℕ) (e n : 
 block_tested r a l e n h ss bound end w held led told =
     onward r (when_some (leads_stmts a n h ss) (row_tests e (map away_row bound))) _
     (subst (λ o. AreTested r (when_some o (row_tests e (map away_row bound))) (IsLed (rows_passed (map away_row bound) o) w.at)) led.leads told)
-    (rest_behind (list_tests a l n h ss) _ held) (λ x p. record { leads = p.leads; at = p.at ∙ led.at })
+    (rest_after (list_tests a l n h ss) _ held) (λ x p. record { leads = p.leads; at = p.at ∙ led.at })
 
 pub scope_tested : (r : Result Walked Stop) (a : Notes) (l : Option ℕ) (n : ℕ) (h : HeldMap) (s : Block) → AreTested r (block_tests a l n (n + 1) h s) (IsLed (leads_block a (n + 1) h s) (n + 1 + size_block s)) → AreTested r (tests a l n h (scope s)) (IsLed (leads a n h (scope s)) (n + size (scope s)))
 scope_tested r a l n h s told = onward r _ _ told (rest_all (block_tests a l n (n + 1) h s)) (λ x p. record { leads = p.leads; at = omega (arith, p.at) })
 
-pub loop_tested : (r : Result Walked Stop) (a : Notes) (l : Option ℕ) (n : ℕ) (h : HeldMap) (rs : List Row) (s : Block) → AreTested r (tests a l n h (loop rs s)) (IsLed (Some (a.behind n)) (n + 1 + size_block s)) → AreTested r (tests a l n h (loop rs s)) (IsLed (leads a n h (loop rs s)) (n + size (loop rs s)))
+pub loop_tested : (r : Result Walked Stop) (a : Notes) (l : Option ℕ) (n : ℕ) (h : HeldMap) (rs : List Row) (s : Block) → AreTested r (tests a l n h (loop rs s)) (IsLed (Some (a.following n)) (n + 1 + size_block s)) → AreTested r (tests a l n h (loop rs s)) (IsLed (leads a n h (loop rs s)) (n + size (loop rs s)))
 loop_tested r a l n h rs s told = onward r _ _ told (rest_all (tests a l n h (loop rs s))) (λ x p. record { leads = p.leads; at = omega (arith, p.at) })
 
 module _ (a : Notes) (l : Option ℕ) (n : ℕ) (h : HeldMap) (rs : List Row) (s : Block) (es : List Row) (k : HeldMap) (held : Hold (row_tests n rs h)) (is : k ≡ map_after rs h) where
   pub focus_body : (z : Failure) → FirstFails (block_tests a l n (n + 1) k s) z → FirstFails (tests a l n h (focus rs s es)) z
-  focus_body z f = first_behind (row_tests n rs h) _ z held (first_here (block_tests a l n (n + 1) (map_after rs h) s) _ z (subst (λ k. FirstFails (block_tests a l n (n + 1) k s) z) is f))
+  focus_body z f = first_after (row_tests n rs h) _ z held (first_here (block_tests a l n (n + 1) (map_after rs h) s) _ z (subst (λ k. FirstFails (block_tests a l n (n + 1) k s) z) is f))
 
   pub focus_tested : (r : Result Walked Stop) (w : Walked) → Hold (block_tests a l n (n + 1) k s) → IsLed (leads_block a (n + 1) k s) (n + 1 + size_block s) w →
       AreTested r (when_some (maybe_map w.held) (row_tests n es)) (IsLed (rows_passed es (maybe_map w.held)) w.at) → AreTested r (tests a l n h (focus rs s es)) (IsLed (leads a n h (focus rs s es)) (n + size (focus rs s es)))
@@ -148,20 +148,20 @@ module _ (a : Notes) (l : Option ℕ) (n : ℕ) (h : HeldMap) (rs : List Row) (s
       let o : maybe_map w.held ≡ leads_block a (n + 1) (map_after rs h) s = led.leads ∙ ap (λ k. leads_block a (n + 1) k s) is in
       onward r (when_some (leads_block a (n + 1) (map_after rs h) s) (row_tests n es)) _
       (subst (λ o. AreTested r (when_some o (row_tests n es)) (IsLed (rows_passed es o) w.at)) o told)
-      (rest_trans _ _ _ (rest_behind (block_tests a l n (n + 1) (map_after rs h) s) _ (subst (λ k. Hold (block_tests a l n (n + 1) k s)) is body)) (rest_behind (row_tests n rs h) _ held))
+      (rest_trans _ _ _ (rest_after (block_tests a l n (n + 1) (map_after rs h) s) _ (subst (λ k. Hold (block_tests a l n (n + 1) k s)) is body)) (rest_after (row_tests n rs h) _ held))
       (λ x p. record { leads = p.leads; at = omega (arith, p.at, led.at) })
 
 module _ (a : Notes) (l : Option ℕ) (n : ℕ) (h : HeldMap) (rs : List Row) (arms : Arms) (end : ℕ) (k : HeldMap) (held : Hold (row_tests n rs h)) (is : k ≡ map_after rs h) where
-  pub switch_arms : (z : Failure) → FirstFails (arms_tests a l n (n + 1) k arms (a.behind n)) z → FirstFails (tests a l n h (switch rs arms end)) z
-  switch_arms z f = first_behind (row_tests n rs h) _ z held (subst (λ k. FirstFails (arms_tests a l n (n + 1) k arms (a.behind n)) z) is f)
+  pub switch_arms : (z : Failure) → FirstFails (arms_tests a l n (n + 1) k arms (a.following n)) z → FirstFails (tests a l n h (switch rs arms end)) z
+  switch_arms z f = first_after (row_tests n rs h) _ z held (subst (λ k. FirstFails (arms_tests a l n (n + 1) k arms (a.following n)) z) is f)
 
-  pub switch_tested : (r : Result Walked Stop) (w : Way) → Hold (arms_tests a l n (n + 1) k arms (a.behind n)) → IsWay (passes_arms arms) (n + 1 + size_arms arms) w →
-      AreTested r [] (IsLed (only_if w.passes (a.behind n)) w.at) → AreTested r (tests a l n h (switch rs arms end)) (IsLed (leads a n h (switch rs arms end)) (n + size (switch rs arms end)))
+  pub switch_tested : (r : Result Walked Stop) (w : Way) → Hold (arms_tests a l n (n + 1) k arms (a.following n)) → IsWay (passes_arms arms) (n + 1 + size_arms arms) w →
+      AreTested r [] (IsLed (only_if w.passes (a.following n)) w.at) → AreTested r (tests a l n h (switch rs arms end)) (IsLed (leads a n h (switch rs arms end)) (n + size (switch rs arms end)))
   switch_tested r w body way told =
       onward r [] _ told (record {
-        hold = λ u. hold_both (row_tests n rs h) _ held (subst (λ k. Hold (arms_tests a l n (n + 1) k arms (a.behind n))) is body);
+        hold = λ u. hold_both (row_tests n rs h) _ held (subst (λ k. Hold (arms_tests a l n (n + 1) k arms (a.following n))) is body);
         first = λ z f. absurd f;
-      }) (λ x p. record { leads = p.leads ∙ ap (λ b. only_if b (a.behind n)) way.passes; at = omega (arith, p.at, way.at) })
+      }) (λ x p. record { leads = p.leads ∙ ap (λ b. only_if b (a.following n)) way.passes; at = omega (arith, p.at, way.at) })
 
 -- a statement that isn't reached
 pub on_none : (r : Result Walked Stop) (a : Notes) (l : Option ℕ) (at n : ℕ) (s : Flow) (o : Option HeldMap) → o ≡ None → AreTested r [] (IsLed None n) → AreTested r (when_some o (λ m. tests a l at m s)) (IsLed (Then o (λ m. leads a at m s)) n)

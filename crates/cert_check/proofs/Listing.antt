@@ -13,7 +13,7 @@ use Rattle.cert_check.specs.Tests.{Failure, Hold, FirstFails, row_tests, below_t
 use Rattle.cert_check.specs.declared.walking.Walked.{Walked}
 use Rattle.cert_check.specs.declared.walking.Way.{Way}
 use Rattle.cert_check.specs.Walks.{IsLed, IsWay, arm_tests}
-use Rattle.cert_check.proofs.Sequences.{IsRest, rest_all, rest_behind, rest_trans, first_here}
+use Rattle.cert_check.proofs.Sequences.{IsRest, rest_all, rest_after, rest_trans, first_here}
 use Rattle.cert_check.proofs.Leading.{assoc}
 
 -- ---- statements
@@ -50,7 +50,7 @@ more_one a l n stmts h i at (Some m) s e g held =
     record {
       low = omega (arith, g.low);
       size = omega (arith, g.size, ap size_stmts split);
-      rest = rest_trans _ _ _ (rest_behind (tests a l at m (flow_view s.flow)) (when_some (leads a at m (flow_view s.flow)) (λ k. list_tests a l (at + size (flow_view s.flow)) k rest)) held)
+      rest = rest_trans _ _ _ (rest_after (tests a l at m (flow_view s.flow)) (when_some (leads a at m (flow_view s.flow)) (λ k. list_tests a l (at + size (flow_view s.flow)) k rest)) held)
           (subst (λ ss. IsRest (list_tests a l at m ss) (list_tests a l n h (stmts_view stmts))) split g.rest);
       leads = subst (λ ss. leads_stmts a at m ss ≡ leads_stmts a n h (stmts_view stmts)) split g.leads;
     }
@@ -95,10 +95,10 @@ pub record Arming (a : Notes) (l : Option ℕ) (n : ℕ) (arms : List FlowArm) (
   pub low : n + 1 ≤ at
   pub size : at + size_arms (arms_view (drop i arms)) ≡ n + 1 + size_arms (arms_view arms)
   pub passes : (p || passes_arms (arms_view (drop i arms))) ≡ passes_arms (arms_view arms)
-  pub rest : IsRest (arms_tests a l n at h (arms_view (drop i arms)) (a.behind n)) (arms_tests a l n (n + 1) h (arms_view arms) (a.behind n))
+  pub rest : IsRest (arms_tests a l n at h (arms_view (drop i arms)) (a.following n)) (arms_tests a l n (n + 1) h (arms_view arms) (a.following n))
 
 pub arming_first : (a : Notes) (l : Option ℕ) (n : ℕ) (arms : List FlowArm) (h : HeldMap) → Arming a l n arms h 0 (n + 1) false
-arming_first a l n arms h = record { low = omega arith; size = refl; passes = refl; rest = rest_all (arms_tests a l n (n + 1) h (arms_view arms) (a.behind n)) }
+arming_first a l n arms h = record { low = omega arith; size = refl; passes = refl; rest = rest_all (arms_tests a l n (n + 1) h (arms_view arms) (a.following n)) }
 
 arms_split : (arms : List FlowArm) (i : ℕ) (x : FlowArm) → drop i arms ≡ x ∷ drop (i + 1) arms → arms_view (drop i arms) ≡ arm (arm_view x).0 (arm_view x).1 (arms_view (drop (i + 1) arms))
 arms_split arms i x e = ap arms_view e
@@ -115,12 +115,12 @@ or_assoc false q r = refl
 
 -- the tests of an arm, and those of the arms after it
 arm_rest : (a : Notes) (l : Option ℕ) (e n : ℕ) (h : HeldMap) (rs : List Row) (s : Block) (rest : Arms) →
-    arm_tests a l e n h (rs, s) ++ arms_tests a l e (n + size_block s) h rest (a.behind e) ≡ arms_tests a l e n h (arm rs s rest) (a.behind e)
+    arm_tests a l e n h (rs, s) ++ arms_tests a l e (n + size_block s) h rest (a.following e) ≡ arms_tests a l e n h (arm rs s rest) (a.following e)
 arm_rest a l e n h rs s rest =
     let r = row_tests e rs h in
     let b = block_tests a l e n (map_after rs h) s in
-    let w = below_tests e (leads_block a n (map_after rs h) s) (a.behind e) in
-    let t = arms_tests a l e (n + size_block s) h rest (a.behind e) in
+    let w = below_tests e (leads_block a n (map_after rs h) s) (a.following e) in
+    let t = arms_tests a l e (n + size_block s) h rest (a.following e) in
     assoc r (b ++ w) t ∙ ap (λ l. r ++ l) (assoc b w t)
 
 pub arming_more : (a : Notes) (l : Option ℕ) (n : ℕ) (arms : List FlowArm) (h : HeldMap) (i at : ℕ) (p : Bool) (x : FlowArm) (w : Way) → drop i arms ≡ x ∷ drop (i + 1) arms → Arming a l n arms h i at p →
@@ -134,23 +134,23 @@ arming_more a l n arms h i at p x w e g held way =
       size = omega (arith, g.size, ap size_arms split);
       passes = or_assoc p (passes_block s) (passes_arms rest) ∙ subst (λ t. (p || passes_arms t) ≡ passes_arms (arms_view arms)) split g.passes;
       rest = rest_trans _ _ _
-          (subst (IsRest (arms_tests a l n (at + size_block s) h rest (a.behind n))) (arm_rest a l n at h (arm_view x).0 s rest) (rest_behind (arm_tests a l n at h (arm_view x)) (arms_tests a l n (at + size_block s) h rest (a.behind n)) held))
-          (subst (λ t. IsRest (arms_tests a l n at h t (a.behind n)) (arms_tests a l n (n + 1) h (arms_view arms) (a.behind n))) split g.rest);
+          (subst (IsRest (arms_tests a l n (at + size_block s) h rest (a.following n))) (arm_rest a l n at h (arm_view x).0 s rest) (rest_after (arm_tests a l n at h (arm_view x)) (arms_tests a l n (at + size_block s) h rest (a.following n)) held))
+          (subst (λ t. IsRest (arms_tests a l n at h t (a.following n)) (arms_tests a l n (n + 1) h (arms_view arms) (a.following n))) split g.rest);
     }))
 
 pub arming_stops : (a : Notes) (l : Option ℕ) (n : ℕ) (arms : List FlowArm) (h : HeldMap) (i at : ℕ) (p : Bool) (x : FlowArm) → drop i arms ≡ x ∷ drop (i + 1) arms → Arming a l n arms h i at p →
-    (z : Failure) → FirstFails (arm_tests a l n at h (arm_view x)) z → FirstFails (arms_tests a l n (n + 1) h (arms_view arms) (a.behind n)) z
+    (z : Failure) → FirstFails (arm_tests a l n at h (arm_view x)) z → FirstFails (arms_tests a l n (n + 1) h (arms_view arms) (a.following n)) z
 arming_stops a l n arms h i at p x e g z t =
     let split = arms_split arms i x e in
     let rest = arms_view (drop (i + 1) arms) in
-    let all = subst (λ t. IsRest (arms_tests a l n at h t (a.behind n)) (arms_tests a l n (n + 1) h (arms_view arms) (a.behind n))) split g.rest in
-    all.first z (subst (λ ts. FirstFails ts z) (arm_rest a l n at h (arm_view x).0 (arm_view x).1 rest) (first_here (arm_tests a l n at h (arm_view x)) (arms_tests a l n (at + size_block (arm_view x).1) h rest (a.behind n)) z t))
+    let all = subst (λ t. IsRest (arms_tests a l n at h t (a.following n)) (arms_tests a l n (n + 1) h (arms_view arms) (a.following n))) split g.rest in
+    all.first z (subst (λ ts. FirstFails ts z) (arm_rest a l n at h (arm_view x).0 (arm_view x).1 rest) (first_here (arm_tests a l n at h (arm_view x)) (arms_tests a l n (at + size_block (arm_view x).1) h rest (a.following n)) z t))
 
 pub arming_ends : (a : Notes) (l : Option ℕ) (n : ℕ) (arms : List FlowArm) (h : HeldMap) (i : ℕ) (w : Way) → length arms ≤ i → Arming a l n arms h i w.at w.passes →
-    Hold (arms_tests a l n (n + 1) h (arms_view arms) (a.behind n)) × IsWay (passes_arms (arms_view arms)) (n + 1 + size_arms (arms_view arms)) w
+    Hold (arms_tests a l n (n + 1) h (arms_view arms) (a.following n)) × IsWay (passes_arms (arms_view arms)) (n + 1 + size_arms (arms_view arms)) w
 arming_ends a l n arms h i w past g =
     let all : drop i arms ≡ [] = drop_all i arms past in (
-      g.rest.hold (subst (λ t. Hold (arms_tests a l n w.at h (arms_view t) (a.behind n))) (sym all) tt),
+      g.rest.hold (subst (λ t. Hold (arms_tests a l n w.at h (arms_view t) (a.following n))) (sym all) tt),
       record {
         passes = or_false w.passes ∙ subst (λ t. (w.passes || passes_arms (arms_view t)) ≡ passes_arms (arms_view arms)) all g.passes;
         at = omega (arith, g.size, ap (λ t. size_arms (arms_view t)) all);

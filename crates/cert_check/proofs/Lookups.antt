@@ -5,7 +5,7 @@ use Rattle.std.proofs.lemmas.Bool.Decides.{nat_tests}
 use Rattle.vlt_core.specs.declared.notes.TokMap.{TokMap}
 use Rattle.cert_read_bodies.specs.declared.notes.MapsNote.{MapsNote}
 use Rattle.cert_read_bodies.specs.declared.notes.MapsNote.TheVariants as note
-use Rattle.cert_check.specs.Notes.{pairs_at, around_of, behind_of, number_of, IsOrderedNote, IsBelowAll, AreOrdered}
+use Rattle.cert_check.specs.Notes.{pairs_at, around_of, following_of, number_of, IsOrderedNote, IsBelowAll, AreOrdered}
 use Rattle.cert_check.specs.Finding.{IsFound, HasNoNote}
 
 pub split_at : {X : Type 0} (xs : List X) (i : ℕ) (x : X) → i < length xs → x ≡ get_or xs i x → drop i xs ≡ x ∷ drop (i + 1) xs
@@ -43,9 +43,9 @@ module _ (instance : ℕ) where
   around_skip (note.Loop s a x) ys n lt = ap (λ b. if b then pairs_at a instance else around_of instance ys n) (other_number s n lt)
   around_skip (note.Join s m) ys n lt = refl
 
-  behind_skip : (y : MapsNote) (ys : List MapsNote) (n : ℕ) → number_of y < n → behind_of instance (y ∷ ys) n ≡ behind_of instance ys n
-  behind_skip (note.Loop s a x) ys n lt = ap (λ b. if b then pairs_at x instance else behind_of instance ys n) (other_number s n lt)
-  behind_skip (note.Join s m) ys n lt = ap (λ b. if b then pairs_at m instance else behind_of instance ys n) (other_number s n lt)
+  after_skip : (y : MapsNote) (ys : List MapsNote) (n : ℕ) → number_of y < n → following_of instance (y ∷ ys) n ≡ following_of instance ys n
+  after_skip (note.Loop s a x) ys n lt = ap (λ b. if b then pairs_at x instance else following_of instance ys n) (other_number s n lt)
+  after_skip (note.Join s m) ys n lt = ap (λ b. if b then pairs_at m instance else following_of instance ys n) (other_number s n lt)
 
   around_at : (i n : ℕ) (notes : List MapsNote) (x : MapsNote) (rest : List MapsNote) → AreOrdered instance notes → drop i notes ≡ x ∷ rest → number_of x ≡ n → around_of instance notes n ≡ around_of instance (x ∷ rest) n
   around_at zero n notes x rest o e same = ap (λ l. around_of instance l n) e
@@ -53,11 +53,11 @@ module _ (instance : ℕ) where
   around_at (suc i) n (y ∷ ys) x rest o e same =
       around_skip y ys n (subst (λ k. number_of y < k) same (below_at i (number_of y) ys x rest o.1 e)) ∙ around_at i n ys x rest o.2 e same
 
-  behind_at : (i n : ℕ) (notes : List MapsNote) (x : MapsNote) (rest : List MapsNote) → AreOrdered instance notes → drop i notes ≡ x ∷ rest → number_of x ≡ n → behind_of instance notes n ≡ behind_of instance (x ∷ rest) n
-  behind_at zero n notes x rest o e same = ap (λ l. behind_of instance l n) e
-  behind_at (suc i) n [] x rest o e same = absurd (none_is x rest e)
-  behind_at (suc i) n (y ∷ ys) x rest o e same =
-      behind_skip y ys n (subst (λ k. number_of y < k) same (below_at i (number_of y) ys x rest o.1 e)) ∙ behind_at i n ys x rest o.2 e same
+  after_at : (i n : ℕ) (notes : List MapsNote) (x : MapsNote) (rest : List MapsNote) → AreOrdered instance notes → drop i notes ≡ x ∷ rest → number_of x ≡ n → following_of instance notes n ≡ following_of instance (x ∷ rest) n
+  after_at zero n notes x rest o e same = ap (λ l. following_of instance l n) e
+  after_at (suc i) n [] x rest o e same = absurd (none_is x rest e)
+  after_at (suc i) n (y ∷ ys) x rest o e same =
+      after_skip y ys n (subst (λ k. number_of y < k) same (below_at i (number_of y) ys x rest o.1 e)) ∙ after_at i n ys x rest o.2 e same
 
   -- ---- notes past a statement's
 
@@ -78,20 +78,20 @@ module _ (instance : ℕ) where
   none_around n (note.Loop s a x ∷ ys) b = ap (λ t. if t then pairs_at a instance else around_of instance ys n) (larger_number s n b.0) ∙ none_around n ys b.1
   none_around n (note.Join s m ∷ ys) b = none_around n ys b.1
 
-  none_behind : (n : ℕ) (ys : List MapsNote) → IsBelowAll n ys → behind_of instance ys n ≡ []
-  none_behind n [] b = refl
-  none_behind n (note.Loop s a x ∷ ys) b = ap (λ t. if t then pairs_at x instance else behind_of instance ys n) (larger_number s n b.0) ∙ none_behind n ys b.1
-  none_behind n (note.Join s m ∷ ys) b = ap (λ t. if t then pairs_at m instance else behind_of instance ys n) (larger_number s n b.0) ∙ none_behind n ys b.1
+  none_after : (n : ℕ) (ys : List MapsNote) → IsBelowAll n ys → following_of instance ys n ≡ []
+  none_after n [] b = refl
+  none_after n (note.Loop s a x ∷ ys) b = ap (λ t. if t then pairs_at x instance else following_of instance ys n) (larger_number s n b.0) ∙ none_after n ys b.1
+  none_after n (note.Join s m ∷ ys) b = ap (λ t. if t then pairs_at m instance else following_of instance ys n) (larger_number s n b.0) ∙ none_after n ys b.1
 
   around_past : (i n : ℕ) (notes : List MapsNote) (x : MapsNote) (rest : List MapsNote) → AreOrdered instance notes → drop i notes ≡ x ∷ rest → number_of x < n → around_of instance notes n ≡ around_of instance rest n
   around_past zero n notes x rest o e lt = ap (λ l. around_of instance l n) e ∙ around_skip x rest n lt
   around_past (suc i) n [] x rest o e lt = absurd (none_is x rest e)
   around_past (suc i) n (y ∷ ys) x rest o e lt = around_skip y ys n (omega (arith, lt, below_at i (number_of y) ys x rest o.1 e)) ∙ around_past i n ys x rest o.2 e lt
 
-  behind_past : (i n : ℕ) (notes : List MapsNote) (x : MapsNote) (rest : List MapsNote) → AreOrdered instance notes → drop i notes ≡ x ∷ rest → number_of x < n → behind_of instance notes n ≡ behind_of instance rest n
-  behind_past zero n notes x rest o e lt = ap (λ l. behind_of instance l n) e ∙ behind_skip x rest n lt
-  behind_past (suc i) n [] x rest o e lt = absurd (none_is x rest e)
-  behind_past (suc i) n (y ∷ ys) x rest o e lt = behind_skip y ys n (omega (arith, lt, below_at i (number_of y) ys x rest o.1 e)) ∙ behind_past i n ys x rest o.2 e lt
+  after_past : (i n : ℕ) (notes : List MapsNote) (x : MapsNote) (rest : List MapsNote) → AreOrdered instance notes → drop i notes ≡ x ∷ rest → number_of x < n → following_of instance notes n ≡ following_of instance rest n
+  after_past zero n notes x rest o e lt = ap (λ l. following_of instance l n) e ∙ after_skip x rest n lt
+  after_past (suc i) n [] x rest o e lt = absurd (none_is x rest e)
+  after_past (suc i) n (y ∷ ys) x rest o e lt = after_skip y ys n (omega (arith, lt, below_at i (number_of y) ys x rest o.1 e)) ∙ after_past i n ys x rest o.2 e lt
 
   module _ (notes : List MapsNote) (i n : ℕ) (x : MapsNote) (o : AreOrdered instance notes) (f : IsFound notes i n) (read : x ≡ get_or notes i x) where
     split : drop i notes ≡ x ∷ drop (i + 1) notes
@@ -103,11 +103,11 @@ module _ (instance : ℕ) where
     pub loop_around : (s : ℕ) (a e : List TokMap) → x ≡ note.Loop s a e → pairs_at a instance ≡ around_of instance notes n
     loop_around s a e is = sym (around_at i n notes x (drop (i + 1) notes) o split number ∙ ap (λ y. around_of instance (y ∷ drop (i + 1) notes) n) is ∙ ap (λ b. if b then pairs_at a instance else around_of instance (drop (i + 1) notes) n) (same_number s n (sym (ap number_of is) ∙ number)))
 
-    pub loop_behind : (s : ℕ) (a e : List TokMap) → x ≡ note.Loop s a e → pairs_at e instance ≡ behind_of instance notes n
-    loop_behind s a e is = sym (behind_at i n notes x (drop (i + 1) notes) o split number ∙ ap (λ y. behind_of instance (y ∷ drop (i + 1) notes) n) is ∙ ap (λ b. if b then pairs_at e instance else behind_of instance (drop (i + 1) notes) n) (same_number s n (sym (ap number_of is) ∙ number)))
+    pub loop_after : (s : ℕ) (a e : List TokMap) → x ≡ note.Loop s a e → pairs_at e instance ≡ following_of instance notes n
+    loop_after s a e is = sym (after_at i n notes x (drop (i + 1) notes) o split number ∙ ap (λ y. following_of instance (y ∷ drop (i + 1) notes) n) is ∙ ap (λ b. if b then pairs_at e instance else following_of instance (drop (i + 1) notes) n) (same_number s n (sym (ap number_of is) ∙ number)))
 
-    pub join_behind : (s : ℕ) (m : List TokMap) → x ≡ note.Join s m → pairs_at m instance ≡ behind_of instance notes n
-    join_behind s m is = sym (behind_at i n notes x (drop (i + 1) notes) o split number ∙ ap (λ y. behind_of instance (y ∷ drop (i + 1) notes) n) is ∙ ap (λ b. if b then pairs_at m instance else behind_of instance (drop (i + 1) notes) n) (same_number s n (sym (ap number_of is) ∙ number)))
+    pub join_after : (s : ℕ) (m : List TokMap) → x ≡ note.Join s m → pairs_at m instance ≡ following_of instance notes n
+    join_after s m is = sym (after_at i n notes x (drop (i + 1) notes) o split number ∙ ap (λ y. following_of instance (y ∷ drop (i + 1) notes) n) is ∙ ap (λ b. if b then pairs_at m instance else following_of instance (drop (i + 1) notes) n) (same_number s n (sym (ap number_of is) ∙ number)))
 
     pub join_around : (s : ℕ) (m : List TokMap) → x ≡ note.Join s m → [] ≡ around_of instance notes n
     join_around s m is = sym (around_at i n notes x (drop (i + 1) notes) o split number ∙ ap (λ y. around_of instance (y ∷ drop (i + 1) notes) n) is ∙ none_around n (drop (i + 1) notes) later)
@@ -122,7 +122,7 @@ module _ (instance : ℕ) where
     pub order : low ≤ high
     pub few : high ≤ length notes
     pub around : around_of instance notes n ≡ around_of instance (drop low notes) n
-    pub behind : behind_of instance notes n ≡ behind_of instance (drop low notes) n
+    pub following : following_of instance notes n ≡ following_of instance (drop low notes) n
     pub past : IsBelowAll n (drop high notes)
 
   pub search_first : (notes : List MapsNote) (n : ℕ) → Searching notes n 0 (length notes)
@@ -130,7 +130,7 @@ module _ (instance : ℕ) where
     order = omega arith;
     few = omega arith;
     around = refl;
-    behind = refl;
+    following = refl;
     past = subst (IsBelowAll n) (sym (drop_all (length notes) notes (omega arith))) tt;
   }
 
@@ -141,7 +141,7 @@ module _ (instance : ℕ) where
         order = omega (arith, lt);
         few = g.few;
         around = around_past i n notes x (drop (i + 1) notes) o split less;
-        behind = behind_past i n notes x (drop (i + 1) notes) o split less;
+        following = after_past i n notes x (drop (i + 1) notes) o split less;
         past = g.past;
       }
 
@@ -152,7 +152,7 @@ module _ (instance : ℕ) where
         order = from;
         few = omega (arith, lt, g.few);
         around = g.around;
-        behind = g.behind;
+        following = g.following;
         past = subst (IsBelowAll n) (sym split) (more, below_trans n (number_of x) (drop (i + 1) notes) more (subst (AreOrdered instance) split (order_drop i notes o)).1);
       }
 
@@ -161,7 +161,7 @@ module _ (instance : ℕ) where
       let past = subst (λ i. IsBelowAll n (drop i notes)) (let e : high ≡ low = omega (arith, past, g.order) in e) g.past in
       record {
         around = g.around ∙ none_around n (drop low notes) past;
-        behind = g.behind ∙ none_behind n (drop low notes) past;
+        following = g.following ∙ none_after n (drop low notes) past;
       }
 
   -- ---- notes in order, from the last on
@@ -169,9 +169,9 @@ module _ (instance : ℕ) where
   pub order_back : (notes : List MapsNote) (j : ℕ) (x : MapsNote) → j < length notes → x ≡ get_or notes (length notes - 1 - j) x → IsOrderedNote instance x → ((y : MapsNote) (rest : List MapsNote) → drop (length notes - 1 - j + 1) notes ≡ y ∷ rest → number_of x < number_of y) → AreOrdered instance (drop (length notes - j) notes) → AreOrdered instance (drop (length notes - (j + 1)) notes)
   order_back notes j x lt read own next o =
       let here : length notes - 1 - j ≡ length notes - (j + 1) = omega arith in
-      let behind : length notes - j ≡ length notes - 1 - j + 1 = omega arith in
+      let following : length notes - j ≡ length notes - 1 - j + 1 = omega arith in
       let i = length notes - 1 - j in
-      let rest = subst (λ i. AreOrdered instance (drop i notes)) behind o in
+      let rest = subst (λ i. AreOrdered instance (drop i notes)) following o in
       subst (λ i. AreOrdered instance (drop i notes)) here
       (subst (AreOrdered instance) (sym (split_at notes i x (omega arith) read)) (own, firsts (drop (i + 1) notes) next rest, rest))
     where

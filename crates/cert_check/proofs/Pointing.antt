@@ -18,7 +18,7 @@ use Rattle.cert_read_bodies.specs.Notes.{note_of}
 use Rattle.cert_read_bodies.specs.declared.notes.MapsNote.{MapsNote}
 use Rattle.cert_read_bodies.specs.declared.notes.MapsNote.TheVariants as note
 use Rattle.cert_fit_laws.specs.Annotation.{held_map, map_or_empty}
-use Rattle.cert_check.specs.Notes.{pairs_in, pairs_at, around_of, behind_of, pairs_of, map_at, given_by, AreOrdered}
+use Rattle.cert_check.specs.Notes.{pairs_in, pairs_at, around_of, following_of, pairs_of, map_at, given_by, AreOrdered}
 use Rattle.cert_check.specs.declared.side.Side.{Side}
 use Rattle.cert_check.specs.declared.side.Side.TheVariants as side
 use Rattle.cert_check.specs.Tests.{row_test, below_test, as_wanted, FirstFails, refused, refusal}
@@ -57,14 +57,14 @@ module _ (instance : ℕ) where
   around_is (note.Loop s a x ∷ notes) n = chosen (s == n) a (around_of instance notes n) _ (around_is notes n)
   around_is (note.Join s m ∷ notes) n = around_is notes n
 
-  behind_is : (notes : List MapsNote) (n : ℕ) → map_of_pairs (behind_of instance notes n) ≡ at_instance (format.behind_of (map note_of notes) n)
-  behind_is [] n = here []
-  behind_is (note.Loop s a x ∷ notes) n = chosen (s == n) x (behind_of instance notes n) _ (behind_is notes n)
-  behind_is (note.Join s m ∷ notes) n = chosen (s == n) m (behind_of instance notes n) _ (behind_is notes n)
+  after_is : (notes : List MapsNote) (n : ℕ) → map_of_pairs (following_of instance notes n) ≡ at_instance (format.following_of (map note_of notes) n)
+  after_is [] n = here []
+  after_is (note.Loop s a x ∷ notes) n = chosen (s == n) x (following_of instance notes n) _ (after_is notes n)
+  after_is (note.Join s m ∷ notes) n = chosen (s == n) m (following_of instance notes n) _ (after_is notes n)
 
   pub map_is : (s : Side) (notes : List MapsNote) (n : ℕ) → map_of_pairs (pairs_of s instance notes n) ≡ map_at s (given_by notes instance) n
   map_is side.Around notes n = around_is notes n
-  map_is side.Behind notes n = behind_is notes n
+  map_is side.Following notes n = after_is notes n
 
   -- ---- their order
 
@@ -77,14 +77,14 @@ module _ (instance : ℕ) where
   around_order (note.Loop s a x ∷ notes) n o = if_order (s == n) (pairs_at a instance) (around_of instance notes n) o.0.0 (around_order notes n o.2)
   around_order (note.Join s m ∷ notes) n o = around_order notes n o.2
 
-  behind_order : (notes : List MapsNote) (n : ℕ) → AreOrdered instance notes → AreInOrder (behind_of instance notes n)
-  behind_order [] n o = tt
-  behind_order (note.Loop s a x ∷ notes) n o = if_order (s == n) (pairs_at x instance) (behind_of instance notes n) o.0.1 (behind_order notes n o.2)
-  behind_order (note.Join s m ∷ notes) n o = if_order (s == n) (pairs_at m instance) (behind_of instance notes n) o.0 (behind_order notes n o.2)
+  after_order : (notes : List MapsNote) (n : ℕ) → AreOrdered instance notes → AreInOrder (following_of instance notes n)
+  after_order [] n o = tt
+  after_order (note.Loop s a x ∷ notes) n o = if_order (s == n) (pairs_at x instance) (following_of instance notes n) o.0.1 (after_order notes n o.2)
+  after_order (note.Join s m ∷ notes) n o = if_order (s == n) (pairs_at m instance) (following_of instance notes n) o.0 (after_order notes n o.2)
 
   pub pairs_order : (s : Side) (notes : List MapsNote) (n : ℕ) → AreOrdered instance notes → AreInOrder (pairs_of s instance notes n)
   pairs_order side.Around notes n o = around_order notes n o
-  pairs_order side.Behind notes n o = behind_order notes n o
+  pairs_order side.Following notes n o = after_order notes n o
 
 -- ---- refusals
 

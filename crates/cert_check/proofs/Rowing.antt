@@ -3,7 +3,7 @@ use Rattle.std.proofs.Common.{◌≡◌, ◌<◌, ◌≤◌, ◌+◌, ℕ, suc, 
 use Rattle.std.proofs.lemmas.List.{drop_all}
 use Rattle.vlt_core.specs.Maps.{Row, HeldMap, row_passed, map_after}
 use Rattle.cert_check.specs.Tests.{row_test, row_tests, Failure, Hold, FirstFails}
-use Rattle.cert_check.proofs.Sequences.{IsRest, rest_all, rest_trans, rest_behind, first_here}
+use Rattle.cert_check.proofs.Sequences.{IsRest, rest_all, rest_trans, rest_after, first_here}
 
 pub split_at : {X : Type 0} (xs : List X) (i : ℕ) (x : X) → i < length xs → x ≡ get_or xs i x → drop i xs ≡ x ∷ drop (i + 1) xs
 split_at xs i x lt read = rw add-one (drop-cons xs i x lt ∙ ap (λ y. y ∷ drop (suc i) xs) (sym read))
@@ -23,7 +23,7 @@ rowing_more f n xs h i cur new x split g held passed =
     let after = subst (λ l. map_after (map f l) cur ≡ map_after (map f xs) h) split g.after in
     record {
       rest = subst (λ m. IsRest (row_tests n (map f (drop (i + 1) xs)) m) (row_tests n (map f xs) h)) (sym passed)
-          (rest_trans _ _ _ (rest_behind (row_test n (f x).tok (cur (f x).tok) (f x).wanted ∷ []) (row_tests n (map f (drop (i + 1) xs)) (row_passed (f x) cur)) held) rest);
+          (rest_trans _ _ _ (rest_after (row_test n (f x).tok (cur (f x).tok) (f x).wanted ∷ []) (row_tests n (map f (drop (i + 1) xs)) (row_passed (f x) cur)) held) rest);
       after = ap (map_after (map f (drop (i + 1) xs))) passed ∙ after;
     }
 

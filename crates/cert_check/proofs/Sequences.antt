@@ -16,9 +16,9 @@ pub first_here : (xs ys : List Test) (z : Failure) → FirstFails xs z → First
 first_here [] ys z f = absurd f
 first_here (x ∷ xs) ys z f = ⊎_elim (λ a. inl a) (λ b. inr (b.0, first_here xs ys z b.1)) f
 
-pub first_behind : (xs ys : List Test) (z : Failure) → Hold xs → FirstFails ys z → FirstFails (xs ++ ys) z
-first_behind [] ys z h f = f
-first_behind (x ∷ xs) ys z h f = inr (h.0, first_behind xs ys z h.1 f)
+pub first_after : (xs ys : List Test) (z : Failure) → Hold xs → FirstFails ys z → FirstFails (xs ++ ys) z
+first_after [] ys z h f = f
+first_after (x ∷ xs) ys z h f = inr (h.0, first_after xs ys z h.1 f)
 
 -- the tests that are left of all: what was before them holds
 pub record IsRest (rest all : List Test) : Type 0 where
@@ -28,8 +28,8 @@ pub record IsRest (rest all : List Test) : Type 0 where
 pub rest_all : (ts : List Test) → IsRest ts ts
 rest_all ts = record { hold = λ h. h; first = λ z f. f }
 
-pub rest_behind : (xs ys : List Test) → Hold xs → IsRest ys (xs ++ ys)
-rest_behind xs ys h = record { hold = hold_both xs ys h; first = λ z. first_behind xs ys z h }
+pub rest_after : (xs ys : List Test) → Hold xs → IsRest ys (xs ++ ys)
+rest_after xs ys h = record { hold = hold_both xs ys h; first = λ z. first_after xs ys z h }
 
 pub rest_trans : (xs ys zs : List Test) → IsRest xs ys → IsRest ys zs → IsRest xs zs
 rest_trans xs ys zs p q = record { hold = λ h. q.hold (p.hold h); first = λ z f. q.first z (p.first z f) }

@@ -29,7 +29,7 @@ annotation_of g = given_by g.notes.now g.instance
 
 abbrev pub map_at : Side → Notes → ℕ → HeldMap
 map_at side.Around a n = a.around n
-map_at side.Behind a n = a.behind n
+map_at side.Following a n = a.following n
 
 -- ---- pairs by number; private contracts alone cite these
 
@@ -47,14 +47,14 @@ around_of i [] n = []
 around_of i (note.Loop stmt around exit ∷ notes) n = if stmt == n then pairs_at around i else around_of i notes n
 around_of i (note.Join stmt maps ∷ notes) n = around_of i notes n
 
-abbrev pub behind_of : (instance : ℕ) → List MapsNote → ℕ → List Pair
-behind_of i [] n = []
-behind_of i (note.Loop stmt around exit ∷ notes) n = if stmt == n then pairs_at exit i else behind_of i notes n
-behind_of i (note.Join stmt maps ∷ notes) n = if stmt == n then pairs_at maps i else behind_of i notes n
+abbrev pub following_of : (instance : ℕ) → List MapsNote → ℕ → List Pair
+following_of i [] n = []
+following_of i (note.Loop stmt around exit ∷ notes) n = if stmt == n then pairs_at exit i else following_of i notes n
+following_of i (note.Join stmt maps ∷ notes) n = if stmt == n then pairs_at maps i else following_of i notes n
 
 abbrev pub pairs_of : Side → (instance : ℕ) → List MapsNote → ℕ → List Pair
 pairs_of side.Around i notes n = around_of i notes n
-pairs_of side.Behind i notes n = behind_of i notes n
+pairs_of side.Following i notes n = following_of i notes n
 
 -- ---- their order; private contracts alone cite this
 

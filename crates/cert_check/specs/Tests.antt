@@ -48,7 +48,7 @@ when_some (Some h) go = go h
 abbrev pub jump_tests : Notes → Option ℕ → Bool → (statement : ℕ) → HeldMap → List Test
 jump_tests a None continues n h = lost_test n ∷ []
 jump_tests a (Some l) true n h = below_test n h (a.around l) ∷ []
-jump_tests a (Some l) false n h = below_test n h (a.behind l) ∷ []
+jump_tests a (Some l) false n h = below_test n h (a.following l) ∷ []
 
 abbrev mutual
   -- `e` is the number of the statement that has the block: the rows of a block's end belong to it
@@ -57,16 +57,16 @@ abbrev mutual
   tests a l n h (choose rs s t) =
       row_tests n rs h ++
       (block_tests a l n (n + 1) (map_after rs h) s ++
-      (below_tests n (leads_block a (n + 1) (map_after rs h) s) (a.behind n) ++
+      (below_tests n (leads_block a (n + 1) (map_after rs h) s) (a.following n) ++
       (block_tests a l n (n + 1 + size_block s) (map_after rs h) t ++
-      below_tests n (leads_block a (n + 1 + size_block s) (map_after rs h) t) (a.behind n))))
+      below_tests n (leads_block a (n + 1 + size_block s) (map_after rs h) t) (a.following n))))
   tests a l n h (loop rs s) =
       below_test n h (a.around n) ∷
       (row_tests n rs (a.around n) ++
-      (below_test n (map_after rs (a.around n)) (a.behind n) ∷
+      (below_test n (map_after rs (a.around n)) (a.following n) ∷
       (block_tests a (Some n) n (n + 1) (map_after rs (a.around n)) s ++
       below_tests n (leads_block a (n + 1) (map_after rs (a.around n)) s) (a.around n))))
-  tests a l n h (switch rs arms end) = row_tests n rs h ++ arms_tests a l n (n + 1) (map_after rs h) arms (a.behind n)
+  tests a l n h (switch rs arms end) = row_tests n rs h ++ arms_tests a l n (n + 1) (map_after rs h) arms (a.following n)
   tests a l n h (scope s) = block_tests a l n (n + 1) h s
   tests a l n h (focus rs s es) =
       row_tests n rs h ++

@@ -36,13 +36,13 @@ way_tests a l s k n h b = block_tests a l k n h b ++ below_tests k (leads_block 
 abbrev pub turn_tests : Notes → ℕ → HeldMap → List Row → Block → List Test
 turn_tests a n h rs b =
     row_tests n rs h ++
-    (below_test n (map_after rs h) (a.behind n) ∷ way_tests a (Some n) side.Around n (n + 1) (map_after rs h) b)
+    (below_test n (map_after rs h) (a.following n) ∷ way_tests a (Some n) side.Around n (n + 1) (map_after rs h) b)
 
 -- an arm of the choice e, and the test at its end
 abbrev pub arm_tests : Notes → Option ℕ → (e n : ℕ) → HeldMap → ArmView → List Test
-arm_tests a l e n h x = row_tests e x.0 h ++ way_tests a l side.Behind e n (map_after x.0 h) x.1
+arm_tests a l e n h x = row_tests e x.0 h ++ way_tests a l side.Following e n (map_after x.0 h) x.1
 
 -- the map that a jump leads to
 abbrev pub jump_side : Bool → Side
 jump_side true = side.Around
-jump_side false = side.Behind
+jump_side false = side.Following

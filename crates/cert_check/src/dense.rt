@@ -3,7 +3,7 @@
 ghost use Rattle.std.specs.Prelude.{◌≡◌, IfOk, OnOk};
 ghost use Rattle.vlt_core.specs.Maps.{IsWanted, absent, row_passed};
 ghost use Rattle.vlt_core.specs.View.{tok_of};
-ghost use Rattle.vlt_core.specs.HeldView.{status_of, wanted_of, row_of};
+ghost use Rattle.vlt_core.specs.HeldView.{status_of, wanted_of};
 ghost use Rattle.vlt_keyset.specs.Held.{map_of, HasPlace, IsSameRange};
 ghost use Rattle.vlt_keyset.specs.Pairs.{map_of_pairs, IsPresent, AreInOrder};
 ghost use Rattle.cert_check.specs.Dense.{row_to, with_status};

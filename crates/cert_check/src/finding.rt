@@ -1,7 +1,7 @@
 //! The note of a statement.
 
-ghost use Rattle.std.specs.Prelude.{◌≡◌, ◌<◌, length, IfSome, IfNone};
-ghost use Rattle.cert_check.specs.Notes.{pairs_at, pairs_of, number_of, AreOrdered, IsOrdered};
+ghost use Rattle.std.specs.Prelude.{◌≡◌, ◌<◌, IfSome, IfNone};
+ghost use Rattle.cert_check.specs.Notes.{pairs_at, pairs_of, number_of, IsOrdered};
 ghost use Rattle.cert_check.specs.Finding.{IsFound, HasNoNote};
 
 use crate::given::Given;
@@ -65,11 +65,11 @@ pub fn pairs_of<'n>(given: &Given<'n>, side: Side, n: usize) -> &'n [(Tok, Statu
             (MapsNote::Loop { stmt, around, exit }, Side::Around) => {
                 pairs_at(around.as_slice(), given.instance)
             }
-            (MapsNote::Loop { stmt, around, exit }, Side::Behind) => {
+            (MapsNote::Loop { stmt, around, exit }, Side::Following) => {
                 pairs_at(exit.as_slice(), given.instance)
             }
             (MapsNote::Join { stmt, maps }, Side::Around) => &[],
-            (MapsNote::Join { stmt, maps }, Side::Behind) => {
+            (MapsNote::Join { stmt, maps }, Side::Following) => {
                 pairs_at(maps.as_slice(), given.instance)
             }
         },

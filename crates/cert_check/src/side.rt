@@ -4,5 +4,5 @@
 #[derive(Clone, Copy)]
 pub enum Side {
     Around,
-    Behind,
+    Following,
 }

@@ -74,13 +74,13 @@ fn pass(held: Held, statement: usize, rows: &[Row]) -> Result<Held, Stop>
 }
 
 /// The map after a choice, if one of its ways can be passed.
-fn behind(given: &Given<'_>, n: usize, way: Way) -> Result<Walked, Stop>
+fn following(given: &Given<'_>, n: usize, way: Way) -> Result<Walked, Stop>
     requires { IsOrdered given.now }
     ensures { AreTested result []
-        (IsLed (only_if way.passes (map_at side.Behind (annotation_of given.now) n)) way.at) }
+        (IsLed (only_if way.passes (map_at side.Following (annotation_of given.now) n)) way.at) }
 {
     if way.passes {
-        let exit = map_of_note(given, Side::Behind, n)?;
+        let exit = map_of_note(given, Side::Following, n)?;
         Ok(comes(exit, way.at))
     } else {
         Ok(stops(way.at))
@@ -153,7 +153,7 @@ fn side_of(continues: bool) -> Side
     if continues {
         Side::Around
     } else {
-        Side::Behind
+        Side::Following
     }
 }
 
@@ -222,13 +222,13 @@ fn test_if(
 {
     let inside = pass(held, n, rows)?;
     let other = inside.copy(given.alloc)?;
-    let first = test_way(given, then_block, l, Side::Behind, n, n + 1, inside)?;
-    let second = test_way(given, else_block, l, Side::Behind, n, first.at, other)?;
+    let first = test_way(given, then_block, l, Side::Following, n, n + 1, inside)?;
+    let second = test_way(given, else_block, l, Side::Following, n, first.at, other)?;
     let way = Way {
         passes: either(first.passes, second.passes),
         at: second.at,
     };
-    behind(given, n, way)
+    following(given, n, way)
 }
 
 /// The rows, the body and the way back of the loop n, from the map at its head.
@@ -248,7 +248,7 @@ fn test_turn(
         (λ m. m ≡ n + 1 + size_block (block_view body.now)) }
 {
     let inside = pass(head, n, rows)?;
-    test_below(given, Side::Behind, n, n, &inside)?;
+    test_below(given, Side::Following, n, n, &inside)?;
     let way = test_way(given, body, Some(n), Side::Around, n, n + 1, inside)?;
     Ok(way.at)
 }
@@ -266,12 +266,12 @@ fn test_loop(
     requires few { n + 1 + size_block (block_view body.now) < 2 ^ 62 }
     ensures { AreTested result (tests (annotation_of given.now) l n (map_of held)
         (flows.loop (rows_view rows.now) (block_view body.now)))
-        (IsLed (Some (map_at side.Behind (annotation_of given.now) n))
+        (IsLed (Some (map_at side.Following (annotation_of given.now) n))
         (n + 1 + size_block (block_view body.now))) }
 {
     let head = enter(given, n, held)?;
     let at = test_turn(given, rows, body, n, head)?;
-    let exit = map_of_note(given, Side::Behind, n)?;
+    let exit = map_of_note(given, Side::Following, n)?;
     Ok(comes(exit, at))
 }
 
@@ -294,7 +294,7 @@ fn test_arm(
 {
     let own = held.copy(given.alloc)?;
     let inside = pass(own, n, arm.rows.as_slice())?;
-    let next = test_way(given, &arm.body, l, Side::Behind, n, way.at, inside)?;
+    let next = test_way(given, &arm.body, l, Side::Following, n, way.at, inside)?;
     Ok(Way {
         passes: either(way.passes, next.passes),
         at: next.at,
@@ -314,7 +314,7 @@ fn test_arms(
     requires few { n + 1 + size_arms (arms_view arms.now) < 2 ^ 62 }
     ensures { AreTested result
         (arms_tests (annotation_of given.now) l n (n + 1) (map_of held.now)
-        (arms_view arms.now) (map_at side.Behind (annotation_of given.now) n))
+        (arms_view arms.now) (map_at side.Following (annotation_of given.now) n))
         (IsWay (passes_arms (arms_view arms.now)) (n + 1 + size_arms (arms_view arms.now))) }
 {
     let mut way = Way {
@@ -360,7 +360,7 @@ fn test_form(
         Flow::Switch { rows, arms, end } => {
             let inside = pass(held, n, rows.as_slice())?;
             let way = test_arms(given, arms.as_slice(), l, n, &inside)?;
-            behind(given, n, way)
+            following(given, n, way)
         }
         Flow::Scope { body } => test_block(given, body, l, n, n + 1, held),
         Flow::Focus { rows, body, after } => {

@@ -51,16 +51,16 @@ module _ (a : Notes) where
     form (choose rs s t) l n h j =
         both (row_tests n rs h) _ (rows n rs h)
         (both (block_tests a l n (n + 1) (map_after rs h) s) _ (body s l n (n + 1) (map_after rs h) j.0)
-        (both (below_tests n (leads_block a (n + 1) (map_after rs h) s) (a.behind n)) _ (belows n (leads_block a (n + 1) (map_after rs h) s) (a.behind n))
+        (both (below_tests n (leads_block a (n + 1) (map_after rs h) s) (a.following n)) _ (belows n (leads_block a (n + 1) (map_after rs h) s) (a.following n))
         (both (block_tests a l n (n + 1 + size_block s) (map_after rs h) t) _ (body t l n (n + 1 + size_block s) (map_after rs h) j.1)
-        (belows n (leads_block a (n + 1 + size_block s) (map_after rs h) t) (a.behind n)))))
+        (belows n (leads_block a (n + 1 + size_block s) (map_after rs h) t) (a.following n)))))
     form (loop rs s) l n h j =
         both (below_tests n (Some h) (a.around n)) _ (belows n (Some h) (a.around n))
         (both (row_tests n rs (a.around n)) _ (rows n rs (a.around n))
-        (both (below_tests n (Some (map_after rs (a.around n))) (a.behind n)) _ (belows n (Some (map_after rs (a.around n))) (a.behind n))
+        (both (below_tests n (Some (map_after rs (a.around n))) (a.following n)) _ (belows n (Some (map_after rs (a.around n))) (a.following n))
         (both (block_tests a (Some n) n (n + 1) (map_after rs (a.around n)) s) _ (body s (Some n) n (n + 1) (map_after rs (a.around n)) j)
         (belows n (leads_block a (n + 1) (map_after rs (a.around n)) s) (a.around n)))))
-    form (switch rs arms end) l n h j = both (row_tests n rs h) _ (rows n rs h) (ways arms l n (n + 1) (map_after rs h) (a.behind n) j)
+    form (switch rs arms end) l n h j = both (row_tests n rs h) _ (rows n rs h) (ways arms l n (n + 1) (map_after rs h) (a.following n) j)
     form (scope s) l n h j = body s l n (n + 1) h j
     form (focus rs s es) l n h j =
         both (row_tests n rs h) _ (rows n rs h)

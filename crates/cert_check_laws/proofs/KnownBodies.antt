@@ -10,7 +10,7 @@ use Rattle.vlt_core.specs.KindedHeads.{unless}
 use Rattle.vlt_core.specs.KindedScopes.{Ids, Around, at_block_start, left_behind}
 use Rattle.vlt_core.specs.KindedOperands.{value_broken}
 use Rattle.vlt_core.specs.KindedCalls.{return_broken}
-use Rattle.vlt_core.specs.KindedBodies.{in_loop, in_focus, with_focus, with_vars, ends, ids_behind, ids_behind_block, list_broken, row_broken, form_rows, block_rows, stmts_rows, arms_rows}
+use Rattle.vlt_core.specs.KindedBodies.{in_loop, in_focus, with_focus, with_vars, ends, ids_following, ids_following_block, list_broken, row_broken, form_rows, block_rows, stmts_rows, arms_rows}
 use Rattle.vlt_core.specs.declared.rules.TheConstants as rule
 use Rattle.vlt_core_laws.proofs.Unbroken.{EachEmpty, left_empty, right_empty, each_left, each_right}
 use Rattle.vlt_sound.specs.Sizes.{HasSizes}
@@ -27,10 +27,10 @@ module _ (p : Program) (g : ℕ) (f : Func) (there : slice_get p.fns g ≡ Some 
     form_known (core.simple s) around ids left m e rows w = none_wide _ (simple_known p g f there b sets kinded sizes ids s m e) w
     form_known (core.call c target keys args) around ids left m e rows w = none_wide _ (call_known p g f there b sets kinded sizes ids c target keys args left m e) w
     form_known (core.choose x u v) around ids left m e rows w =
-        let behind = ids_behind_block p f u ids in
-        ⊎_elim (none_wide _ (value_known p g f there b sets kinded sizes ids (Some core.bool) x (left_empty (value_broken p f ids (Some core.bool) x) (list_broken p f [] ids u) (left_empty _ (list_broken p f [] behind v) e))))
-        (λ more. ⊎_elim (block_known u around ids left m.0 (each_left (block_rows p f around ids u) (block_rows p f around behind v) rows))
-        (block_known v around behind left m.1 (each_right (block_rows p f around ids u) (block_rows p f around behind v) rows)) more) w
+        let following = ids_following_block p f u ids in
+        ⊎_elim (none_wide _ (value_known p g f there b sets kinded sizes ids (Some core.bool) x (left_empty (value_broken p f ids (Some core.bool) x) (list_broken p f [] ids u) (left_empty _ (list_broken p f [] following v) e))))
+        (λ more. ⊎_elim (block_known u around ids left m.0 (each_left (block_rows p f around ids u) (block_rows p f around following v) rows))
+        (block_known v around following left m.1 (each_right (block_rows p f around ids u) (block_rows p f around following v) rows)) more) w
     form_known (core.loop x u) around ids left m e rows w =
         ⊎_elim (none_wide _ (value_known p g f there b sets kinded sizes ids (Some core.bool) x (left_empty (value_broken p f ids (Some core.bool) x) (list_broken p f [] ids u) e)))
         (block_known u (in_loop around) ids [] m rows) w
@@ -50,16 +50,16 @@ module _ (p : Program) (g : ℕ) (f : Func) (there : slice_get p.fns g ≡ Some 
     pub stmts_known : (ss : core.Stmts) (around : Around) (ids : Ids) (ended : Bool) (left : List Tok) → AreMasked ss → EachEmpty (stmts_rows p f around ids ended ss) → HasPartStmts HasWide NoArms (flow_of_stmts p (instance p f o) left ss) → ⊥
     stmts_known core.done around ids ended left m rows w = w
     stmts_known (core.next at s rest) around ids ended left m rows w =
-        let behind = ids_behind p f s ids in
+        let following = ids_following p f s ids in
         ⊎_elim
-        (form_known s around ids left m.0 (right_empty (unless (not ended) rule.BEHIND_END) (row_broken p f around ids s) rows.0) (each_left (form_rows p f around ids s) (stmts_rows p f around behind (ends s) rest) rows.1))
-        (stmts_known rest around behind (ends s) left m.1 (each_right (form_rows p f around ids s) (stmts_rows p f around behind (ends s) rest) rows.1)) w
+        (form_known s around ids left m.0 (right_empty (unless (not ended) rule.AFTER_END) (row_broken p f around ids s) rows.0) (each_left (form_rows p f around ids s) (stmts_rows p f around following (ends s) rest) rows.1))
+        (stmts_known rest around following (ends s) left m.1 (each_right (form_rows p f around ids s) (stmts_rows p f around following (ends s) rest) rows.1)) w
 
     arms_known : (arms : core.Arms) (v : ℕ) (around : Around) (ids : Ids) (left : List Tok) → AreMaskedArms arms → EachEmpty (arms_rows p f around ids arms) → HasPartArms HasWide NoArms (flow_of_arms p (instance p f o) left v arms) → ⊥
     arms_known core.no_arms v around ids left m rows w = w
     arms_known (core.arm c vs u rest) v around ids left m rows w =
         let inside = with_vars f vs ids in
-        let behind = left_behind ids (ids_behind_block p f u inside) in
+        let following = left_behind ids (ids_following_block p f u inside) in
         ⊎_elim (none_wide _ (arm_known p g f there b sets kinded sizes v c vs))
-        (λ more. ⊎_elim (block_known u around inside left m.0 (each_left (block_rows p f around inside u) (arms_rows p f around behind rest) rows))
-        (arms_known rest v around behind left m.1 (each_right (block_rows p f around inside u) (arms_rows p f around behind rest) rows)) more) w
+        (λ more. ⊎_elim (block_known u around inside left m.0 (each_left (block_rows p f around inside u) (arms_rows p f around following rest) rows))
+        (arms_known rest v around following left m.1 (each_right (block_rows p f around inside u) (arms_rows p f around following rest) rows)) more) w

@@ -10,7 +10,7 @@ use Rattle.vlt_core.specs.Kinded.{IsKinded}
 use Rattle.vlt_core.specs.KindedHeads.{Rules, unless, when_some, has, are_apart, type_broken, head_broken}
 use Rattle.vlt_core.specs.KindedScopes.{Ids, Around, at_block_start, left_behind, use_broken}
 use Rattle.vlt_core.specs.KindedStatements.{variant_args, is_variant_type}
-use Rattle.vlt_core.specs.KindedBodies.{in_loop, in_focus, with_focus, with_vars, ends, switch_broken, ids_behind, ids_behind_block, arms_broken, row_broken, form_rows, block_rows, stmts_rows, arms_rows, first_ids}
+use Rattle.vlt_core.specs.KindedBodies.{in_loop, in_focus, with_focus, with_vars, ends, switch_broken, ids_following, ids_following_block, arms_broken, row_broken, form_rows, block_rows, stmts_rows, arms_rows, first_ids}
 use Rattle.vlt_core.specs.declared.rules.TheConstants as rule
 use Rattle.vlt_core_laws.specs.Arms.{IsSomeArm, HasArms, HasArmsBlock, HasArmsStmts, HasArmsArms}
 use Rattle.vlt_core_laws.proofs.Unbroken.{EachEmpty, filled_not_empty, some_not_none, left_empty, right_empty, unless_holds, each_left, each_right}
@@ -104,8 +104,8 @@ module _ (p : Program) (f : Func) (cases : SomeCases p) (vars : (v : ℕ) → Is
     armed (simple s) around ids e rows = tt
     armed (call g target keys args) around ids e rows = tt
     armed (choose x a b) around ids e rows = (
-      armed_block a around ids (each_left (block_rows p f around ids a) (block_rows p f around (ids_behind_block p f a ids) b) rows),
-      armed_block b around (ids_behind_block p f a ids) (each_right (block_rows p f around ids a) (block_rows p f around (ids_behind_block p f a ids) b) rows),
+      armed_block a around ids (each_left (block_rows p f around ids a) (block_rows p f around (ids_following_block p f a ids) b) rows),
+      armed_block b around (ids_following_block p f a ids) (each_right (block_rows p f around ids a) (block_rows p f around (ids_following_block p f a ids) b) rows),
     )
     armed (loop x b) around ids e rows = armed_block b (in_loop around) ids rows
     armed (switch v arms end) around ids e rows =
@@ -121,17 +121,17 @@ module _ (p : Program) (f : Func) (cases : SomeCases p) (vars : (v : ℕ) → Is
     pub armed_list : (ss : Stmts) (around : Around) (ids : Ids) (ended : Bool) → EachEmpty (stmts_rows p f around ids ended ss) → HasArmsStmts ss
     armed_list done around ids ended rows = tt
     armed_list (next at s rest) around ids ended rows =
-        let behind = ids_behind p f s ids in (
-          armed s around ids (right_empty (unless (not ended) rule.BEHIND_END) (row_broken p f around ids s) rows.0) (each_left (form_rows p f around ids s) (stmts_rows p f around behind (ends s) rest) rows.1),
-          armed_list rest around behind (ends s) (each_right (form_rows p f around ids s) (stmts_rows p f around behind (ends s) rest) rows.1),
+        let following = ids_following p f s ids in (
+          armed s around ids (right_empty (unless (not ended) rule.AFTER_END) (row_broken p f around ids s) rows.0) (each_left (form_rows p f around ids s) (stmts_rows p f around following (ends s) rest) rows.1),
+          armed_list rest around following (ends s) (each_right (form_rows p f around ids s) (stmts_rows p f around following (ends s) rest) rows.1),
         )
 
     armed_arms : (arms : Arms) (around : Around) (ids : Ids) → EachEmpty (arms_rows p f around ids arms) → HasArmsArms arms
     armed_arms no_arms around ids rows = tt
     armed_arms (arm c vs b rest) around ids rows =
-        let behind = left_behind ids (ids_behind_block p f b (with_vars f vs ids)) in (
-          armed_block b around (with_vars f vs ids) (each_left (block_rows p f around (with_vars f vs ids) b) (arms_rows p f around behind rest) rows),
-          armed_arms rest around behind (each_right (block_rows p f around (with_vars f vs ids) b) (arms_rows p f around behind rest) rows),
+        let following = left_behind ids (ids_following_block p f b (with_vars f vs ids)) in (
+          armed_block b around (with_vars f vs ids) (each_left (block_rows p f around (with_vars f vs ids) b) (arms_rows p f around following rest) rows),
+          armed_arms rest around following (each_right (block_rows p f around (with_vars f vs ids) b) (arms_rows p f around following rest) rows),
         )
 
 pub have_arms : (p : Program) (g : ℕ) (f : Func) → SomeCases p → (f.external ≡ true → f.body ≡ done) → IsKinded p → slice_get p.fns g ≡ Some f → HasArmsStmts f.body

@@ -68,7 +68,7 @@ kinded : IsKinded caseless
 kinded = refl
 
 abbrev no_maps : Notes
-no_maps = record { around = λ n t. absent; behind = λ n t. absent }
+no_maps = record { around = λ n t. absent; following = λ n t. absent }
 
 main_local : IsLocalIn caseless main no_maps
 main_local =
@@ -87,9 +87,9 @@ refused : IsAccepted caseless → ⊥
 refused ok =
     let d = ok 1 main None refl refl tt in
     let stmts = d.2.1.1 in
-    let behind_focus = stmts.2.2.2.2.2 in
-    let below = behind_focus.1.1 in
-    never (below.each (a_key 0)).kind behind_focus.2.1.0.0.0
+    let after_focus = stmts.2.2.2.2.2 in
+    let below = after_focus.1.1 in
+    never (below.each (a_key 0)).kind after_focus.2.1.0.0.0
   where
     never : {k : Kind} → is_absent ≡ k → k ≡ is_held → ⊥
     never e d = cc

@@ -13,9 +13,9 @@ module _ (i : Option ℕ) (a : MapNotes) where
   abbrev mutual
     pub HasMaps : ℕ → Form → Type 0
     HasMaps n (core.choose e x y) =
-        (zero_or (maps_part i)).Fits (join_of (ends (core.choose e x y)) (a.behind n)) × BlockHasMaps (n + 1) x × BlockHasMaps (n + 1 + count_block x) y
-    HasMaps n (core.loop e x) = (maps_part i).Fits (a.around n) × (maps_part i).Fits (a.behind n) × BlockHasMaps (n + 1) x
-    HasMaps n (core.switch v arms end) = (zero_or (maps_part i)).Fits (join_of (ends (core.switch v arms end)) (a.behind n)) × ArmsHaveMaps (n + 1) arms
+        (zero_or (maps_part i)).Fits (join_of (ends (core.choose e x y)) (a.following n)) × BlockHasMaps (n + 1) x × BlockHasMaps (n + 1 + count_block x) y
+    HasMaps n (core.loop e x) = (maps_part i).Fits (a.around n) × (maps_part i).Fits (a.following n) × BlockHasMaps (n + 1) x
+    HasMaps n (core.switch v arms end) = (zero_or (maps_part i)).Fits (join_of (ends (core.switch v arms end)) (a.following n)) × ArmsHaveMaps (n + 1) arms
     HasMaps n (core.focus y z x) = BlockHasMaps (n + 1) x
     HasMaps n (core.scope x) = BlockHasMaps (n + 1) x
     HasMaps n _ = Unit {0}

@@ -33,16 +33,16 @@ no_number (Some n) m = refl
 
 module _ (i : Option ℕ) (a : MapNotes) where
   -- the maps of a choice
-  join_fits : (n : ℕ) (b : Bool) → All (FitsNote i) (join_note n (join_of b (a.behind n))) → (zero_or (maps_part i)).Fits (join_of b (a.behind n))
+  join_fits : (n : ℕ) (b : Bool) → All (FitsNote i) (join_note n (join_of b (a.following n))) → (zero_or (maps_part i)).Fits (join_of b (a.following n))
   join_fits n true e = tt
-  join_fits n false e = (e.0, no_number i (a.behind n))
+  join_fits n false e = (e.0, no_number i (a.following n))
 
   mutual
     form_maps : (n : ℕ) (s : core.Form) → All (FitsNote i) (notes_of n (draft_of a n s)) → HasMaps i a n s
     form_maps n (core.simple s) e = tt
     form_maps n (core.call g target keys args) e = tt
     form_maps n (core.choose x c d) e =
-        let own = join_note n (join_of (ends (core.choose x c d)) (a.behind n)) in
+        let own = join_note n (join_of (ends (core.choose x c d)) (a.following n)) in
         let one = block_notes (n + 1) (block_draft a (n + 1) c) in
         let two = block_notes (n + 1 + size_block (block_draft a (n + 1) c)) (block_draft a (n + 1 + count_block c) d) in
         let more = all_right (FitsNote i) own (one ++ two) e in (
@@ -52,7 +52,7 @@ module _ (i : Option ℕ) (a : MapNotes) where
         )
     form_maps n (core.loop x c) e = (e.0.0, e.0.1, block_maps (n + 1) c e.1)
     form_maps n (core.switch v arms end) e =
-        let own = join_note n (join_of (ends (core.switch v arms end)) (a.behind n)) in
+        let own = join_note n (join_of (ends (core.switch v arms end)) (a.following n)) in
         let more = arms_notes (n + 1) (arms_draft a (n + 1) arms) in
         (join_fits n (ends (core.switch v arms end)) (all_left (FitsNote i) own more e), arms_maps (n + 1) arms (all_right (FitsNote i) own more e))
     form_maps n (core.focus y z c) e = block_maps (n + 1) c e

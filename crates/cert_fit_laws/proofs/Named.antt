@@ -8,7 +8,7 @@ use Rattle.vlt_core.specs.Flow as flow
 use Rattle.vlt_core.specs.Bodies.{flow_of, flow_of_block, flow_of_stmts, flow_of_arms}
 use Rattle.vlt_core.specs.Least.{Noted, a_loop, a_join, noted, noted_block, noted_stmts, noted_arms}
 use Rattle.vlt_core.specs.KindedScopes.{Ids, Around, at_block_start, left_behind}
-use Rattle.vlt_core.specs.KindedBodies.{in_loop, in_focus, with_focus, with_vars, ends, ids_behind, ids_behind_block, form_rows, block_rows, stmts_rows, arms_rows}
+use Rattle.vlt_core.specs.KindedBodies.{in_loop, in_focus, with_focus, with_vars, ends, ids_following, ids_following_block, form_rows, block_rows, stmts_rows, arms_rows}
 use Rattle.vlt_core_laws.specs.Arms.{HasArms, HasArmsBlock, HasArmsStmts, HasArmsArms}
 use Rattle.vlt_core_laws.proofs.Unbroken.{EachEmpty, each_left, each_right}
 use Rattle.vlt_core_laws.proofs.Ending.{ends_form}
@@ -65,9 +65,9 @@ module _ (p : Program) (f : Func) where
     same_form n (core.simple s) left around ids arms rows = refl
     same_form n (core.call g target keys args) left around ids arms rows = refl
     same_form n (core.choose e a b) left around ids arms rows =
-        let behind = ids_behind_block p f a ids in
-        let one = same_block (n + 1) a left around ids arms.0 (each_left (block_rows p f around ids a) (block_rows p f around behind b) rows) in
-        let two = same_block (n + 1 + count_block a) b left around behind arms.1 (each_right (block_rows p f around ids a) (block_rows p f around behind b) rows) in
+        let following = ids_following_block p f a ids in
+        let one = same_block (n + 1) a left around ids arms.0 (each_left (block_rows p f around ids a) (block_rows p f around following b) rows) in
+        let two = same_block (n + 1 + count_block a) b left around following arms.1 (each_right (block_rows p f around ids a) (block_rows p f around following b) rows) in
         append_assoc _ (noted_block (n + 1) (flow_of_block p f left a)) (noted_block (n + 1 + flow.size_block (flow_of_block p f left a)) (flow_of_block p f left b)) ∙
         join (same_join n (core.choose e a b) left around ids arms rows)
         (join one (ap (λ m. noted_block (n + 1 + m) (flow_of_block p f left b)) (flow_size_block p f a left) ∙ two))
@@ -85,31 +85,31 @@ module _ (p : Program) (f : Func) where
     pub same_list : (n : ℕ) (ss : core.Stmts) (left : List Tok) (around : Around) (ids : Ids) (ended : Bool) → HasArmsStmts ss → EachEmpty (stmts_rows p f around ids ended ss) → noted_stmts n (flow_of_stmts p f left ss) ≡ list_noted n ss
     same_list n core.done left around ids ended arms rows = refl
     same_list n (core.next at s rest) left around ids ended arms rows =
-        let behind = ids_behind p f s ids in
-        join (same_form n s left around ids arms.0 (each_left (form_rows p f around ids s) (stmts_rows p f around behind (ends s) rest) rows.1))
+        let following = ids_following p f s ids in
+        join (same_form n s left around ids arms.0 (each_left (form_rows p f around ids s) (stmts_rows p f around following (ends s) rest) rows.1))
         (ap (λ m. noted_stmts (n + m) (flow_of_stmts p f left rest)) (flow_size p f s left) ∙
-        same_list (n + count s) rest left around behind (ends s) arms.1 (each_right (form_rows p f around ids s) (stmts_rows p f around behind (ends s) rest) rows.1))
+        same_list (n + count s) rest left around following (ends s) arms.1 (each_right (form_rows p f around ids s) (stmts_rows p f around following (ends s) rest) rows.1))
 
     same_arms : (n : ℕ) (arms : core.Arms) (left : List Tok) (v : ℕ) (around : Around) (ids : Ids) → HasArmsArms arms → EachEmpty (arms_rows p f around ids arms) → noted_arms n (flow_of_arms p f left v arms) ≡ arms_noted n arms
     same_arms n core.no_arms left v around ids arms rows = refl
     same_arms n (core.arm c vs b rest) left v around ids arms rows =
         let inside = with_vars f vs ids in
-        let behind = left_behind ids (ids_behind_block p f b inside) in
-        join (same_block n b left around inside arms.0 (each_left (block_rows p f around inside b) (arms_rows p f around behind rest) rows))
+        let following = left_behind ids (ids_following_block p f b inside) in
+        join (same_block n b left around inside arms.0 (each_left (block_rows p f around inside b) (arms_rows p f around following rest) rows))
         (ap (λ m. noted_arms (n + m) (flow_of_arms p f left v rest)) (flow_size_block p f b left) ∙
-        same_arms (n + count_block b) rest left v around behind arms.1 (each_right (block_rows p f around inside b) (arms_rows p f around behind rest) rows))
+        same_arms (n + count_block b) rest left v around following arms.1 (each_right (block_rows p f around inside b) (arms_rows p f around following rest) rows))
 
 -- ---- as drafts say it: each statement's note has the maps that are looked up by its number
 
 abbrev pub read : MapNotes → Noted → Note
-read a (a_loop n) = at_loop n (a.around n) (a.behind n)
-read a (a_join n) = at_join n (a.behind n)
+read a (a_loop n) = at_loop n (a.around n) (a.following n)
+read a (a_join n) = at_join n (a.following n)
 
 module _ (a : MapNotes) where
   abbrev reads : List Noted → List Note
   reads = map (read a)
 
-  read_join : (n : ℕ) (b : Bool) → join_note n (join_of b (a.behind n)) ≡ reads (joined n b)
+  read_join : (n : ℕ) (b : Bool) → join_note n (join_of b (a.following n)) ≡ reads (joined n b)
   read_join n true = refl
   read_join n false = refl
 
@@ -123,7 +123,7 @@ module _ (a : MapNotes) where
         join (read_join n (ends (core.choose e x y)))
         (join (read_block (n + 1) x) (ap (λ m. block_notes (n + 1 + m) (block_draft a (n + 1 + count_block x) y)) (draft_size_block a x (n + 1)) ∙ read_block (n + 1 + count_block x) y) ∙
         sym (map-append (read a) xs ys)) ∙ sym (map-append (read a) (joined n (ends (core.choose e x y))) (xs ++ ys))
-    read_form n (core.loop e x) = ap (λ xs. at_loop n (a.around n) (a.behind n) ∷ xs) (read_block (n + 1) x)
+    read_form n (core.loop e x) = ap (λ xs. at_loop n (a.around n) (a.following n) ∷ xs) (read_block (n + 1) x)
     read_form n (core.switch v arms end) =
         join (read_join n (ends (core.switch v arms end))) (read_arms (n + 1) arms) ∙ sym (map-append (read a) (joined n (ends (core.switch v arms end))) (arms_noted (n + 1) arms))
     read_form n (core.focus y z x) = read_block (n + 1) x

@@ -10,7 +10,7 @@ use Rattle.vlt_core.specs.KindedScopes.{Ids, Around, at_block_start, left_behind
 use Rattle.vlt_core.specs.KindedOperands.{misfit, value_broken}
 use Rattle.vlt_core.specs.KindedStatements.{variant_args, payload_types, case_broken, is_variant_type}
 use Rattle.vlt_core.specs.KindedCalls.{return_broken}
-use Rattle.vlt_core.specs.KindedBodies.{ends, arm_cases, switch_broken, owning_toks, with_vars, arm_vars_broken, arm_broken, focus_broken, in_loop, in_focus, with_focus, ids_behind, ids_behind_block, ids_behind_stmts, list_broken, arms_broken, row_broken, form_rows, block_rows, stmts_rows, arms_rows}
+use Rattle.vlt_core.specs.KindedBodies.{ends, arm_cases, switch_broken, owning_toks, with_vars, arm_vars_broken, arm_broken, focus_broken, in_loop, in_focus, with_focus, ids_following, ids_following_block, ids_following_stmts, list_broken, arms_broken, row_broken, form_rows, block_rows, stmts_rows, arms_rows}
 use Rattle.vlt_core.specs.declared.rules.TheConstants as rule
 use Rattle.vlt_core_laws.proofs.Unbroken.{EachEmpty, left_empty, right_empty, each_left, each_right}
 use Rattle.cert_rows.specs.Parts.{All}
@@ -47,12 +47,12 @@ module _ (p : Program) (f : Func) (b : Bounds p f) where
     form_low deep (core.simple s) around ids m n e rows = simple_narrow p f b ids s m e
     form_low deep (core.call g target keys os) around ids m n e rows = call_narrow p f b ids g target keys os m e
     form_low deep (core.choose x c d) around ids m n e rows =
-        let behind = ids_behind_block p f c ids in
-        let first_part = left_empty (value_broken p f ids (Some bool) x ++ list_broken p f [] ids c) (list_broken p f [] behind d) e in (
+        let following = ids_following_block p f c ids in
+        let first_part = left_empty (value_broken p f ids (Some bool) x ++ list_broken p f [] ids c) (list_broken p f [] following d) e in (
           value_narrow p f b ids (Some bool) x (left_empty (value_broken p f ids (Some bool) x) (list_broken p f [] ids c) first_part),
-          block_low (suc deep) c around ids ids [] m.0 n.1 (right_empty (value_broken p f ids (Some bool) x) (list_broken p f [] ids c) first_part) (each_left (block_rows p f around ids c) (block_rows p f around behind d) rows),
-          block_low (suc deep) d around behind behind [] m.1 n.2 (right_empty (value_broken p f ids (Some bool) x ++ list_broken p f [] ids c) (list_broken p f [] behind d) e)
-              (each_right (block_rows p f around ids c) (block_rows p f around behind d) rows),
+          block_low (suc deep) c around ids ids [] m.0 n.1 (right_empty (value_broken p f ids (Some bool) x) (list_broken p f [] ids c) first_part) (each_left (block_rows p f around ids c) (block_rows p f around following d) rows),
+          block_low (suc deep) d around following following [] m.1 n.2 (right_empty (value_broken p f ids (Some bool) x ++ list_broken p f [] ids c) (list_broken p f [] following d) e)
+              (each_right (block_rows p f around ids c) (block_rows p f around following d) rows),
         )
     form_low deep (core.loop x c) around ids m n e rows = (
       value_narrow p f b ids (Some bool) x (left_empty (value_broken p f ids (Some bool) x) (list_broken p f [] ids c) e),
@@ -76,27 +76,27 @@ module _ (p : Program) (f : Func) (b : Bounds p f) where
 
     block_low : (deep : ℕ) (c : Block) (around : Around) (ids listed : Ids) (extra : List Tok) → IsMaskedBlock c → IsLimitedBlock deep c → list_broken p f extra listed c ≡ [] → EachEmpty (block_rows p f around ids c) → IsNarrowBlock c
     block_low deep (core.block ss bound end) around ids listed extra m n e rows =
-        (n.0, tokens_fit p f b bound (extra ++ (ids_behind_stmts p f ss (at_block_start listed)).bound) e, list_low deep ss around (at_block_start ids) false m n.1 rows)
+        (n.0, tokens_fit p f b bound (extra ++ (ids_following_stmts p f ss (at_block_start listed)).bound) e, list_low deep ss around (at_block_start ids) false m n.1 rows)
 
     pub list_low : (deep : ℕ) (ss : Stmts) (around : Around) (ids : Ids) (ended : Bool) → AreMasked ss → AreLimited deep ss → EachEmpty (stmts_rows p f around ids ended ss) → AreNarrow ss
     list_low deep core.done around ids ended m n rows = tt
     list_low deep (core.next at s rest) around ids ended m n rows =
-        let behind = ids_behind p f s ids in (
-          form_low deep s around ids m.0 n.0 (right_empty (unless (not ended) rule.BEHIND_END) (row_broken p f around ids s) rows.0) (each_left (form_rows p f around ids s) (stmts_rows p f around behind (ends s) rest) rows.1),
-          list_low deep rest around behind (ends s) m.1 n.1 (each_right (form_rows p f around ids s) (stmts_rows p f around behind (ends s) rest) rows.1),
+        let following = ids_following p f s ids in (
+          form_low deep s around ids m.0 n.0 (right_empty (unless (not ended) rule.AFTER_END) (row_broken p f around ids s) rows.0) (each_left (form_rows p f around ids s) (stmts_rows p f around following (ends s) rest) rows.1),
+          list_low deep rest around following (ends s) m.1 n.1 (each_right (form_rows p f around ids s) (stmts_rows p f around following (ends s) rest) rows.1),
         )
 
     arms_low : (deep v : ℕ) (is : Variant p f b v) (arms : Arms) (around : Around) (ids : Ids) → AreMaskedArms arms → AreLimitedArms deep arms → arms_broken p f ids v arms ≡ [] → EachEmpty (arms_rows p f around ids arms) → AreNarrowArms arms
     arms_low deep v is core.no_arms around ids m n e rows = tt
     arms_low deep v is (core.arm c vs d rest) around ids m n e rows =
         let inside = with_vars f vs ids in
-        let behind = left_behind ids (ids_behind_block p f d inside) in
-        let first_part = left_empty (arm_broken p f ids v c vs ++ list_broken p f (owning_toks f vs) inside d) (arms_broken p f behind v rest) e in
+        let following = left_behind ids (ids_following_block p f d inside) in
+        let first_part = left_empty (arm_broken p f ids v c vs ++ list_broken p f (owning_toks f vs) inside d) (arms_broken p f following v rest) e in
         let own = left_empty (arm_broken p f ids v c vs) (list_broken p f (owning_toks f vs) inside d) first_part in
         let ws = payload_types p (variant_args (var_type f v)) c in (
           case_low p f b v c (length vs) is (left_empty (case_broken p c (length vs) (variant_args (var_type f v))) (arm_vars_broken f ids ws vs) own),
           arm_vars_low ids ws vs (right_empty (case_broken p c (length vs) (variant_args (var_type f v))) (arm_vars_broken f ids ws vs) own),
-          block_low deep d around inside inside (owning_toks f vs) m.0 n.0 (right_empty (arm_broken p f ids v c vs) (list_broken p f (owning_toks f vs) inside d) first_part) (each_left (block_rows p f around inside d) (arms_rows p f around behind rest) rows),
-          arms_low deep v is rest around behind m.1 n.1 (right_empty (arm_broken p f ids v c vs ++ list_broken p f (owning_toks f vs) inside d) (arms_broken p f behind v rest) e)
-              (each_right (block_rows p f around inside d) (arms_rows p f around behind rest) rows),
+          block_low deep d around inside inside (owning_toks f vs) m.0 n.0 (right_empty (arm_broken p f ids v c vs) (list_broken p f (owning_toks f vs) inside d) first_part) (each_left (block_rows p f around inside d) (arms_rows p f around following rest) rows),
+          arms_low deep v is rest around following m.1 n.1 (right_empty (arm_broken p f ids v c vs ++ list_broken p f (owning_toks f vs) inside d) (arms_broken p f following v rest) e)
+              (each_right (block_rows p f around inside d) (arms_rows p f around following rest) rows),
         )

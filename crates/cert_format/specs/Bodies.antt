@@ -42,10 +42,10 @@ module _ (a : MapNotes) where
     draft_of n (core.call f target keys args) = plain (row.call f target keys args)
     draft_of n (core.choose e x y) =
         choose e (block_draft (n + 1) x) (block_draft (n + 1 + count_block x) y)
-        (join_of (ends (core.choose e x y)) (a.behind n))
-    draft_of n (core.loop e x) = loop e (block_draft (n + 1) x) (a.around n) (a.behind n)
+        (join_of (ends (core.choose e x y)) (a.following n))
+    draft_of n (core.loop e x) = loop e (block_draft (n + 1) x) (a.around n) (a.following n)
     draft_of n (core.switch v arms end) =
-        switch v (arms_draft (n + 1) arms) (join_of (ends (core.switch v arms end)) (a.behind n))
+        switch v (arms_draft (n + 1) arms) (join_of (ends (core.switch v arms end)) (a.following n))
     draft_of n (core.focus y z x) = focus y z (block_draft (n + 1) x)
     draft_of n (core.scope x) = scope (block_draft (n + 1) x)
     draft_of n (core.return o) = plain (row.return o)

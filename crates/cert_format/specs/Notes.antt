@@ -13,20 +13,20 @@ pub data Note : Type 0 where
 -- the maps at the head of a loop, and those after a loop or a choice
 pub record MapNotes : Type 0 where
   pub around : ℕ → Maps
-  pub behind : ℕ → Maps
+  pub following : ℕ → Maps
 
 abbrev pub around_of : List Note → ℕ → Maps
 around_of [] n = []
 around_of (at_loop m around exit ∷ notes) n = if m == n then around else around_of notes n
 around_of (at_join m maps ∷ notes) n = around_of notes n
 
-abbrev pub behind_of : List Note → ℕ → Maps
-behind_of [] n = []
-behind_of (at_loop m around exit ∷ notes) n = if m == n then exit else behind_of notes n
-behind_of (at_join m maps ∷ notes) n = if m == n then maps else behind_of notes n
+abbrev pub following_of : List Note → ℕ → Maps
+following_of [] n = []
+following_of (at_loop m around exit ∷ notes) n = if m == n then exit else following_of notes n
+following_of (at_join m maps ∷ notes) n = if m == n then maps else following_of notes n
 
 abbrev pub maps_of : List Note → MapNotes
-maps_of notes = record { around = around_of notes; behind = behind_of notes }
+maps_of notes = record { around = around_of notes; following = following_of notes }
 
 -- ---- of a choice that ends there are none, and 0 stands in their place
 

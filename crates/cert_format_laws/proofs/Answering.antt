@@ -119,17 +119,17 @@ module _ (fs : List Func) (a : List (List Note)) where
   types_back (core.a_struct d ∷ ts) = ap (λ z. core.a_struct d ∷ z) (types_back ts)
   types_back (core.a_variant d ∷ ts) = ap (λ z. core.a_variant d ∷ z) (types_back ts)
 
-  fns_behind : (ts : List TypeDecl) → fns_of (type_pieces ts fs a) ≡ fns_of (fn_pieces fs a)
-  fns_behind [] = refl
-  fns_behind (core.an_abstract name set ∷ ts) = fns_behind ts
-  fns_behind (core.a_struct d ∷ ts) = fns_behind ts
-  fns_behind (core.a_variant d ∷ ts) = fns_behind ts
+  fns_after : (ts : List TypeDecl) → fns_of (type_pieces ts fs a) ≡ fns_of (fn_pieces fs a)
+  fns_after [] = refl
+  fns_after (core.an_abstract name set ∷ ts) = fns_after ts
+  fns_after (core.a_struct d ∷ ts) = fns_after ts
+  fns_after (core.a_variant d ∷ ts) = fns_after ts
 
-  all_behind : (ts : List TypeDecl) → all_of (type_pieces ts fs a) ≡ all_of (fn_pieces fs a)
-  all_behind [] = refl
-  all_behind (core.an_abstract name set ∷ ts) = all_behind ts
-  all_behind (core.a_struct d ∷ ts) = all_behind ts
-  all_behind (core.a_variant d ∷ ts) = all_behind ts
+  all_after : (ts : List TypeDecl) → all_of (type_pieces ts fs a) ≡ all_of (fn_pieces fs a)
+  all_after [] = refl
+  all_after (core.an_abstract name set ∷ ts) = all_after ts
+  all_after (core.a_struct d ∷ ts) = all_after ts
+  all_after (core.a_variant d ∷ ts) = all_after ts
 
 fn_piece_sets : (f : Func) (notes : List Note) (ps : List Piece) → sets_of (fn_piece f notes ∷ ps) ≡ sets_of ps
 fn_piece_sets f notes ps = by f.external
@@ -214,11 +214,11 @@ program_back o p a fits =
     let ts : types_of (pieces_of p a) ≡ p.types =
     types_over p.sets (type_pieces p.types p.fns a) ∙ types_back p.fns a p.types ∙ ap (λ z. p.types ++ z) (fn_types p.fns a) ∙ no_end p.types in
     let bodies = fns_back o p p.fns a (ap (λ (r : Program). r.fns) fits.unplaced) fits.functions in
-    let fs : fns_of (pieces_of p a) ≡ p.fns = fns_over p.sets (type_pieces p.types p.fns a) ∙ fns_behind p.fns a p.types ∙ bodies.0 in (
+    let fs : fns_of (pieces_of p a) ≡ p.fns = fns_over p.sets (type_pieces p.types p.fns a) ∙ fns_after p.fns a p.types ∙ bodies.0 in (
       ap (λ z. whole_of z (types_of (pieces_of p a)) (fns_of (pieces_of p a))) ds ∙
           ap (λ z. whole_of p.sets z (fns_of (pieces_of p a))) ts ∙ ap (whole_of p.sets p.types) fs
           ∙ ap (λ n. record p { main = n }) (sym fits.main),
-      all_over p.sets (type_pieces p.types p.fns a) ∙ all_behind p.fns a p.types ∙ bodies.1,
+      all_over p.sets (type_pieces p.types p.fns a) ∙ all_after p.fns a p.types ∙ bodies.1,
     )
 
 pub certificate_said : (text : List ℕ) (p : Program) (a : List (List Note)) (c : IsCertificateOf text p a) → AreSaid text c.ordered (pieces_of p a) []

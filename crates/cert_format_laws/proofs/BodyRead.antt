@@ -106,20 +106,20 @@ second go mk a false n bound ss more goes empty =
     ap (λ b. (mk a b, map Some (list_rows ss) ++ more, false)) (bare_is n bound ss e) ∙
     ap (λ xs. (mk a (block n bound ss), map Some (list_rows xs) ++ more, false)) e
 
-arms_behind : (go : Rest → Taken Arms) (c : ℕ) (vs : List ℕ) (b : Block) (w : Bool) (rest : Arms) (more : Rest) →
+arms_after : (go : Rest → Taken Arms) (c : ℕ) (vs : List ℕ) (b : Block) (w : Bool) (rest : Arms) (more : Rest) →
     (w ≡ true → go (map Some (arms_rows rest) ++ more) ≡ (rest, more, are_whole_arms rest)) → (w ≡ false → AreBare rest) →
     then_arms c vs (b, map Some (arms_rows rest) ++ more, w) go (arm_heads rest) ≡ (arm c vs b rest, more, w && are_whole_arms rest)
-arms_behind go c vs b true rest more goes empty = ap (λ (u : Taken Arms). (arm c vs b u.0, u.1, u.2)) (goes refl)
-arms_behind go c vs b false rest more goes empty =
+arms_after go c vs b true rest more goes empty = ap (λ (u : Taken Arms). (arm c vs b u.0, u.1, u.2)) (goes refl)
+arms_after go c vs b false rest more goes empty =
     let e = empty refl in
     ap (λ xs. (arm c vs b xs, map Some (arms_rows rest) ++ more, false)) (all_bare rest e) ∙
     ap (λ xs. (arm c vs b rest, map Some xs ++ more, false)) (bare_rows rest e)
 
-rest_behind : (go : Rest → Taken Drafts) (f : Draft) (w : Bool) (n : ℕ) (rest : Drafts) (more ds : Rest) →
+rest_after : (go : Rest → Taken Drafts) (f : Draft) (w : Bool) (n : ℕ) (rest : Drafts) (more ds : Rest) →
     (w ≡ true → go (map Some (list_rows rest) ++ more) ≡ (rest, more, is_whole_list n rest)) → (w ≡ false → rest ≡ done) →
     then_drafts (Some (f, map Some (list_rows rest) ++ more, w)) go ds ≡ (next f rest, more, w && is_whole_list n rest)
-rest_behind go f true n rest more ds goes empty = ap (λ (u : Taken Drafts). (next f u.0, u.1, u.2)) (goes refl)
-rest_behind go f false n rest more ds goes empty =
+rest_after go f true n rest more ds goes empty = ap (λ (u : Taken Drafts). (next f u.0, u.1, u.2)) (goes refl)
+rest_after go f false n rest more ds goes empty =
     let e = empty refl in
     ap (λ xs. (next f xs, map Some (list_rows rest) ++ more, false)) (sym e) ∙ ap (λ xs. (next f rest, map Some (list_rows xs) ++ more, false)) e
 
@@ -163,7 +163,7 @@ mutual
       ap (take_drafts (suc k) deep (suc n)) (split (draft_rows f) (list_rows rest) more)
       ∙ ap (λ x. then_drafts x (take_drafts k deep n) (map Some (draft_rows f) ++ (map Some (list_rows rest) ++ more)))
       (taken f k deep (map Some (list_rows rest) ++ more) (omega (arith, h)) t.0)
-      ∙ rest_behind (take_drafts k deep n) f (is_whole_draft f) n rest more (map Some (draft_rows f) ++
+      ∙ rest_after (take_drafts k deep n) f (is_whole_draft f) n rest more (map Some (draft_rows f) ++
       (map Some (list_rows rest) ++ more)) (λ w. taken_list rest k deep n more (omega (arith, h)) (t.1 w)) t.2
 
   pub taken_arms : (arms : Arms) (k deep : ℕ) (more : Rest) → need_arms arms ≤ k → AreTakenArms deep arms more →
@@ -175,7 +175,7 @@ mutual
       ap (take_arms (suc k) deep ((c, vs, n1, b1) ∷ arm_heads rest)) (split (list_rows s1) (arms_rows rest) more)
       ∙ ap (λ x. then_arms c vs (a_block (n1, b1) x) (take_arms k deep (arm_heads rest)) (arm_heads rest))
       (taken_list s1 k deep n1 (map Some (arms_rows rest) ++ more) (omega (arith, h)) t.0)
-      ∙ arms_behind (take_arms k deep (arm_heads rest)) c vs (block n1 b1 s1) (is_whole_list n1 s1) rest more
+      ∙ arms_after (take_arms k deep (arm_heads rest)) c vs (block n1 b1 s1) (is_whole_list n1 s1) rest more
       (λ w. taken_arms rest k deep more (omega (arith, h)) (t.1 w)) t.2
 
 -- ---- rows say one thing

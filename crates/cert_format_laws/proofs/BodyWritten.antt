@@ -100,4 +100,4 @@ pub read_back : (a : MapNotes) (ss : core.Stmts) (x : Drafts) (more rest : Rest)
     map Some (list_rows (list_draft a 0 ss)) ++ more ≡ map Some (list_rows x) ++ rest → IsReadBack a ss x more rest
 read_back a ss x more rest within taken same_rows =
     let e = one_thing 1 (length_of ss) (list_draft a 0 ss) x more rest (list_takes a 0 1 ss more within) taken same_rows in
-    record { body = ap core_list (sym e.0) ∙ same_list a 0 ss; notes = ap (list_notes 0) (sym e.0); behind = sym e.1 }
+    record { body = ap core_list (sym e.0) ∙ same_list a 0 ss; notes = ap (list_notes 0) (sym e.0); following = sym e.1 }

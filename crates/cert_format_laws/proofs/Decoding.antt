@@ -64,10 +64,10 @@ module _ (w : Shape) where
     pub rest : List Data
     pub made : ds ≡ map (row_data w) rs ++ rest
     pub fits : All (FitsRow w) rs
-    pub behind : map (row_part w).of_data rest ≡ more
+    pub following : map (row_part w).of_data rest ≡ more
 
   pub decoded : (rs : List Row) (ds : List Data) (more : Rest) → map (row_part w).of_data ds ≡ map Some rs ++ more → Decoded rs ds more
-  decoded [] ds more e = record { rest = ds; made = refl; fits = tt; behind = e }
+  decoded [] ds more e = record { rest = ds; made = refl; fits = tt; following = e }
   decoded (r ∷ rs) [] more e = absurd (nothing_there (Some r) (map Some rs ++ more) e)
   decoded (r ∷ rs) (d ∷ ds) more e =
       let here = row_said d r (head_same ((row_part w).of_data d) (Some r) (map (row_part w).of_data ds) (map Some rs ++ more) e) in
@@ -76,5 +76,5 @@ module _ (w : Shape) where
         rest = there.rest;
         made = ap (λ x. x ∷ ds) here.0 ∙ ap (λ z. row_data w r ∷ z) there.made;
         fits = (here.1, there.fits);
-        behind = there.behind;
+        following = there.following;
       }

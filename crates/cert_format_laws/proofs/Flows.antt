@@ -152,7 +152,7 @@ mutual
       ) refl
   local a l n h (loop rs s) =
       rw (local_block a (Some n) (n + 1) (map_after rs (a.around n)) s, leading_block a (n + 1) (map_after rs (a.around n)) s) refl
-  local a l n h (switch rs arms end) = rw (local_arms a l (n + 1) (map_after rs h) arms (a.behind n)) refl
+  local a l n h (switch rs arms end) = rw (local_arms a l (n + 1) (map_after rs h) arms (a.following n)) refl
   local a l n h (scope s) = local_block a l (n + 1) h s
   local a l n h (focus rs s es) =
       rw (local_block a l (n + 1) (map_after rs h) s, leading_block a (n + 1) (map_after rs h) s) refl

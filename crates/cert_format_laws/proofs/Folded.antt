@@ -273,10 +273,10 @@ module _ (o : Bool) (p : Program) where
       (sym none)
 
   -- after functions neither sets nor types
-  function_behind : (ds : List Data) (xs : List Piece) → sets_of xs ≡ [] → types_of xs ≡ [] →
+  function_after : (ds : List Data) (xs : List Piece) → sets_of xs ≡ [] → types_of xs ≡ [] →
       ds ++ front_data xs ≡ map (row_data plain) (map states (sets_of xs)) ++
       (map (row_data plain) (flat_map type_rows (types_of xs)) ++ (ds ++ functions_data o p (fns_of xs) (all_of xs)))
-  function_behind ds xs none no_type =
+  function_after ds xs none no_type =
       ap (λ zs. ds ++ (map (row_data plain) (map states zs) ++
       (map (row_data plain) (flat_map type_rows (types_of xs)) ++ functions_data o p (fns_of xs) (all_of xs)))) none
       ∙ ap (λ zs. ds ++ (map (row_data plain) (flat_map type_rows zs) ++ functions_data o p (fns_of xs) (all_of xs))) no_type
@@ -324,7 +324,7 @@ module _ (o : Bool) (p : Program) where
       ap (λ z. piece_data o t (an_external f) ++ z) (made xs t 2 left (at + 1) (a.1 refl) w r e)
       ∙ ap (λ z. z ++ front_data xs) (external_made o p t (full_sets xs t left (a.1 refl) w e.0)
       (full_types xs t left (a.1 refl) w e.1) phase f (pieces_data o t xs ++ []) a.0)
-      ∙ function_behind (map (row_data (fn_shape o p (func_of true f core.done))) (function_rows (func_of true f core.done) []))
+      ∙ function_after (map (row_data (fn_shape o p (func_of true f core.done))) (function_rows (func_of true f core.done) []))
       xs (no_sets o xs t 2 left (omega arith) (a.1 refl) w) (no_types o xs t 2 left (omega arith) (a.1 refl) w)
   made (a_function f ss ∷ xs) t phase (suc left) at a w r e =
       let q = both_so (is_whole_list f.6 ss) (are_whole xs) w in
@@ -332,6 +332,6 @@ module _ (o : Bool) (p : Program) where
       ap (λ z. piece_data o t (a_function f ss) ++ z) (made xs t 2 left (at + length (piece_rows (a_function f ss))) (a.1 q.0) q.1 n.1 e)
       ∙ ap (λ z. z ++ front_data xs) (function_made o p t (full_sets xs t left (a.1 q.0) q.1 e.0)
       (full_types xs t left (a.1 q.0) q.1 e.1) phase f ss (pieces_data o t xs ++ []) a.0 q.0 (suc at) n.0)
-      ∙ function_behind (map (row_data (fn_shape o p (func_of false f (core_list ss))))
+      ∙ function_after (map (row_data (fn_shape o p (func_of false f (core_list ss))))
       (function_rows (func_of false f (core_list ss)) (list_notes 0 ss))) xs
       (no_sets o xs t 2 left (omega arith) (a.1 q.0) q.1) (no_types o xs t 2 left (omega arith) (a.1 q.0) q.1)

@@ -6,7 +6,7 @@ use Rattle.vlt_core.specs.Core.{Tok, Operand, Form, simple, call, choose, loop, 
 use Rattle.vlt_core.specs.KindedHeads.{Rules, unless, when_some, are_apart, set_broken, type_rows, head_broken}
 use Rattle.vlt_core.specs.KindedScopes.{Ids, Around, use_broken, at_block_start, left_behind}
 use Rattle.vlt_core.specs.KindedCalls.{call_broken, with_call_target}
-use Rattle.vlt_core.specs.KindedBodies.{ends, block_ends, list_ends, arms_end, arm_cases, owning_toks, switch_broken, with_vars, with_focus, in_loop, in_focus, ids_behind, ids_behind_block, ids_behind_stmts, ids_behind_arms, list_broken, arms_broken, row_broken, form_rows, block_rows, stmts_rows, arms_rows, body_rows, end_broken, first_ids}
+use Rattle.vlt_core.specs.KindedBodies.{ends, block_ends, list_ends, arms_end, arm_cases, owning_toks, switch_broken, with_vars, with_focus, in_loop, in_focus, ids_following, ids_following_block, ids_following_stmts, ids_following_arms, list_broken, arms_broken, row_broken, form_rows, block_rows, stmts_rows, arms_rows, body_rows, end_broken, first_ids}
 use Rattle.vlt_core.specs.Kinded.{has_main, function_rows, rows_broken, first_broken, breaks}
 use Rattle.vlt_core.specs.declared.rules.TheConstants as rule
 use Rattle.vlt_core.specs.Lookups.{var_type, cases_of}
@@ -54,35 +54,35 @@ module _ (p : Program) (f : Func) where
   called_ids (Some g) (Some v) ids = refl
 
   mutual
-    pub behind : (s : Form) (ids : Ids) → ids_behind (unplaced_program p) (unplaced_func f) (unplaced_form s) ids ≡ ids_behind p f s ids
-    behind (simple s) ids = refl
-    behind (call g target keys args) ids = rw (callee p g) (called_ids (slice_get p.fns g) target ids)
-    behind (choose e a b) ids = rw (behind_block a ids, behind_block b (ids_behind_block p f a ids)) refl
-    behind (loop e b) ids = behind_block b ids
-    behind (switch v arms end) ids = behind_arms arms ids
-    behind (focus y z b) ids = rw (behind_block b (with_focus f z ids)) refl
-    behind (scope b) ids = behind_block b ids
-    behind (return value) ids = refl
-    behind (jump continues) ids = refl
+    pub following : (s : Form) (ids : Ids) → ids_following (unplaced_program p) (unplaced_func f) (unplaced_form s) ids ≡ ids_following p f s ids
+    following (simple s) ids = refl
+    following (call g target keys args) ids = rw (callee p g) (called_ids (slice_get p.fns g) target ids)
+    following (choose e a b) ids = rw (after_block a ids, after_block b (ids_following_block p f a ids)) refl
+    following (loop e b) ids = after_block b ids
+    following (switch v arms end) ids = after_arms arms ids
+    following (focus y z b) ids = rw (after_block b (with_focus f z ids)) refl
+    following (scope b) ids = after_block b ids
+    following (return value) ids = refl
+    following (jump continues) ids = refl
 
-    pub behind_block : (b : Block) (ids : Ids) → ids_behind_block (unplaced_program p) (unplaced_func f)
-        (unplaced_block b) ids ≡ ids_behind_block p f b ids
-    behind_block (block ss bound end) ids = rw (behind_list ss (at_block_start ids)) refl
+    pub after_block : (b : Block) (ids : Ids) → ids_following_block (unplaced_program p) (unplaced_func f)
+        (unplaced_block b) ids ≡ ids_following_block p f b ids
+    after_block (block ss bound end) ids = rw (after_list ss (at_block_start ids)) refl
 
-    pub behind_list : (ss : Stmts) (ids : Ids) → ids_behind_stmts (unplaced_program p) (unplaced_func f)
-        (unplaced_stmts ss) ids ≡ ids_behind_stmts p f ss ids
-    behind_list done ids = refl
-    behind_list (next at s rest) ids = rw (behind s ids) (behind_list rest (ids_behind p f s ids))
+    pub after_list : (ss : Stmts) (ids : Ids) → ids_following_stmts (unplaced_program p) (unplaced_func f)
+        (unplaced_stmts ss) ids ≡ ids_following_stmts p f ss ids
+    after_list done ids = refl
+    after_list (next at s rest) ids = rw (following s ids) (after_list rest (ids_following p f s ids))
 
-    pub behind_arms : (arms : Arms) (ids : Ids) → ids_behind_arms (unplaced_program p) (unplaced_func f)
-        (unplaced_arms arms) ids ≡ ids_behind_arms p f arms ids
-    behind_arms no_arms ids = refl
-    behind_arms (arm c vs b rest) ids =
-        rw (behind_block b (with_vars f vs ids)) (behind_arms rest (left_behind ids (ids_behind_block p f b (with_vars f vs ids))))
+    pub after_arms : (arms : Arms) (ids : Ids) → ids_following_arms (unplaced_program p) (unplaced_func f)
+        (unplaced_arms arms) ids ≡ ids_following_arms p f arms ids
+    after_arms no_arms ids = refl
+    after_arms (arm c vs b rest) ids =
+        rw (after_block b (with_vars f vs ids)) (after_arms rest (left_behind ids (ids_following_block p f b (with_vars f vs ids))))
 
   listed : (extra : List Tok) (ids : Ids) (b : Block) →
       list_broken (unplaced_program p) (unplaced_func f) extra ids (unplaced_block b) ≡ list_broken p f extra ids b
-  listed extra ids (block ss bound end) = rw (behind_list ss (at_block_start ids)) refl
+  listed extra ids (block ss bound end) = rw (after_list ss (at_block_start ids)) refl
 
   armed : (ids : Ids) (v : ℕ) (arms : Arms) → arms_broken (unplaced_program p) (unplaced_func f) ids v
       (unplaced_arms arms) ≡ arms_broken p f ids v arms
@@ -90,8 +90,8 @@ module _ (p : Program) (f : Func) where
   armed ids v (arm c vs b rest) =
       rw (
         listed (owning_toks f vs) (with_vars f vs ids) b,
-        behind_block b (with_vars f vs ids),
-        armed (left_behind ids (ids_behind_block p f b (with_vars f vs ids))) v rest,
+        after_block b (with_vars f vs ids),
+        armed (left_behind ids (ids_following_block p f b (with_vars f vs ids))) v rest,
       ) refl
 
   called : (ids : Ids) (o : Option Func) (target : Option ℕ) (keys : List ℕ) (args : List Operand) →
@@ -117,7 +117,7 @@ module _ (p : Program) (f : Func) where
   rowed around ids (simple s) = refl
   rowed around ids (call g target keys args) =
       ap (λ o. call_broken p f ids o target keys args) (callee p g) ∙ called ids (slice_get p.fns g) target keys args
-  rowed around ids (choose e a b) = rw (behind_block a ids, listed [] ids a, listed [] (ids_behind_block p f a ids) b) refl
+  rowed around ids (choose e a b) = rw (after_block a ids, listed [] ids a, listed [] (ids_following_block p f a ids) b) refl
   rowed around ids (loop e b) = rw (listed [] ids b) refl
   rowed around ids (switch v arms end) =
       ap (λ cs. switch_rules ids v cs ++ arms_broken (unplaced_program p) (unplaced_func f) ids v (unplaced_arms arms)) (cases arms)
@@ -132,7 +132,7 @@ module _ (p : Program) (f : Func) where
         form_rows (unplaced_program p) (unplaced_func f) around ids (unplaced_form s) ≡ form_rows p f around ids s
     forms around ids (simple s) = refl
     forms around ids (call g target keys args) = refl
-    forms around ids (choose e a b) = rw (behind_block a ids, blocks around ids a, blocks around (ids_behind_block p f a ids) b) refl
+    forms around ids (choose e a b) = rw (after_block a ids, blocks around ids a, blocks around (ids_following_block p f a ids) b) refl
     forms around ids (loop e b) = blocks (in_loop around) ids b
     forms around ids (switch v arms end) = arm_lists around ids arms
     forms around ids (focus y z b) = blocks in_focus (with_focus f z ids) b
@@ -149,16 +149,16 @@ module _ (p : Program) (f : Func) where
         (unplaced_stmts ss) ≡ stmts_rows p f around ids ended ss
     lists around ids ended done = refl
     lists around ids ended (next at s rest) =
-        rw (behind s ids, ending s, rowed around ids s, forms around ids s, lists around (ids_behind p f s ids) (ends s) rest) refl
+        rw (following s ids, ending s, rowed around ids s, forms around ids s, lists around (ids_following p f s ids) (ends s) rest) refl
 
     pub arm_lists : (around : Around) (ids : Ids) (arms : Arms) →
         arms_rows (unplaced_program p) (unplaced_func f) around ids (unplaced_arms arms) ≡ arms_rows p f around ids arms
     arm_lists around ids no_arms = refl
     arm_lists around ids (arm c vs b rest) =
         rw (
-          behind_block b (with_vars f vs ids),
+          after_block b (with_vars f vs ids),
           blocks around (with_vars f vs ids) b,
-          arm_lists around (left_behind ids (ids_behind_block p f b (with_vars f vs ids))) rest,
+          arm_lists around (left_behind ids (ids_following_block p f b (with_vars f vs ids))) rest,
         ) refl
 
 pub functions : (p : Program) (q : ℕ × Func) → function_rows (unplaced_program p) (q.0, unplaced_func q.1) ≡ function_rows p q

@@ -12,7 +12,7 @@ use Rattle.vlt_core.specs.Lookups.{fields_of}
 use Rattle.c_syntax.specs.declared.program.CPrim.TheVariants as prim
 use Rattle.c_lower.specs.Slots.{Numbers, first_temps, first_numbers, past_all, past, vars_at, cells_at, field_sorts, sorts_of_field, sorts_at, field_cells, cell_counts, slot_of, slot_vars, var_slots, object_type, touched_cells, cell_sorts, of_number, of_reference, var_at}
 use Rattle.c_lower.specs.Guards.{whole, unary_guards, unequal, equal}
-use Rattle.c_lower.specs.Statements.{StmtCode, stmt_code, in_turn, most_of_both, body_of, runtime_call, runtime_value, count_arg, puts, field_puts, owner_atoms_in, owner_atoms, swap_slots, open_slots, owning_positions, open_fields, case_positions, variant_type, behind_first, build_slots, arm_copies, is_alike, is_external_at, name_of, simple_code, call_stmts, call_code, return_stmts, return_code, form_code, block_code, list_code, arms_code}
+use Rattle.c_lower.specs.Statements.{StmtCode, stmt_code, in_turn, most_of_both, body_of, runtime_call, runtime_value, count_arg, puts, field_puts, owner_atoms_in, owner_atoms, swap_slots, open_slots, owning_positions, open_fields, case_positions, variant_type, after_first, build_slots, arm_copies, is_alike, is_external_at, name_of, simple_code, call_stmts, call_code, return_stmts, return_code, form_code, block_code, list_code, arms_code}
 use Rattle.c_lower.specs.Expressions.{Atom, Code, Codes, variable, atom_arg, first_atom, value_of, copies, reads, into_temp, binary_code, expr_code, operand_code, operand_codes}
 use Rattle.c_lower.specs.Glue.{glue_code}
 use Rattle.c_lower.specs.Lowering.{func_with, with_body, externals, lowered}
@@ -168,7 +168,7 @@ module _ (p : Program) (f : Func) where
   simples t (core.build v k os) =
       ap (λ args. stmt_code
       (args.stmts ++ c.set (slot_of p f v) (whole k)
-      ∷ build_slots 1 (case_positions p (variant_type f v) k) (map first_atom args.atoms) (behind_first (var_slots p f v)))
+      ∷ build_slots 1 (case_positions p (variant_type f v) k) (map first_atom args.atoms) (after_first (var_slots p f v)))
       args.next) (operands t os)
   simples t (core.swap x i v) =
       ap (λ ss. stmt_code (swap_slots (slot_of p f x) (vars_at t ss) (touched_cells (unplaced_program p) (unplaced_func f) x i)

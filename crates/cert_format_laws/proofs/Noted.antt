@@ -4,7 +4,7 @@ use Rattle.std.proofs.lemmas.Bool.Decides.{nat_tests}
 use Rattle.cert_rows.specs.Parts.{All}
 use Rattle.cert_rows.specs.Rows.{Maps}
 use Rattle.cert_format.specs.Drafts.{Draft, plain, choose, loop, switch, focus, scope, Block, block, Drafts, done, next, Arms, no_arms, arm}
-use Rattle.cert_format.specs.Notes.{Note, at_loop, at_join, join_note, around_of, behind_of, maps_of}
+use Rattle.cert_format.specs.Notes.{Note, at_loop, at_join, join_note, around_of, following_of, maps_of}
 use Rattle.cert_format.specs.Bodies.{notes_of, block_notes, list_notes, arms_notes, size, size_block, size_list, size_arms}
 use Rattle.cert_format_laws.proofs.Decoding.{joined, no_end}
 use Rattle.cert_format_laws.proofs.Redrafted.{Says}
@@ -22,8 +22,8 @@ from_less : (m n : ℕ) (xs : List Note) → m ≤ n → Ascend n xs → Ascend 
 from_less m n [] h k = tt
 from_less m n (x ∷ xs) h k = (omega (arith, h, k.0), k.1)
 
-behind : (n : ℕ) (xs ys zs : List Note) → Ascend n (xs ++ (ys ++ zs)) → Ascend n ((xs ++ ys) ++ zs)
-behind n xs ys zs h = subst (Ascend n) (sym (joined xs ys zs)) h
+following : (n : ℕ) (xs ys zs : List Note) → Ascend n (xs ++ (ys ++ zs)) → Ascend n ((xs ++ ys) ++ zs)
+following n xs ys zs h = subst (Ascend n) (sym (joined xs ys zs)) h
 
 join_ascends : (n : ℕ) (m : Option Maps) (xs : List Note) → Ascend (n + 1) xs → Ascend n (join_note n m ++ xs)
 join_ascends n None xs h = from_less n (n + 1) xs (omega arith) h
@@ -38,9 +38,9 @@ mutual
   ascend n (choose e a b m) xs h =
       let last : Ascend (n + 1 + size_block a + size_block b) xs =
       at_number (n + size (choose e a b m)) (n + 1 + size_block a + size_block b) xs (omega arith) h in
-      behind n (join_note n m) (block_notes (n + 1) a ++ block_notes (n + 1 + size_block a) b) xs
+      following n (join_note n m) (block_notes (n + 1) a ++ block_notes (n + 1 + size_block a) b) xs
       (join_ascends n m ((block_notes (n + 1) a ++ block_notes (n + 1 + size_block a) b) ++ xs)
-      (behind (n + 1) (block_notes (n + 1) a) (block_notes (n + 1 + size_block a) b) xs
+      (following (n + 1) (block_notes (n + 1) a) (block_notes (n + 1 + size_block a) b) xs
       (block_ascend (n + 1) a (block_notes (n + 1 + size_block a) b ++ xs) (block_ascend (n + 1 + size_block a) b xs last))))
   ascend n (loop e a m k) xs h = (
     omega arith,
@@ -48,7 +48,7 @@ mutual
         (block_ascend (n + 1) a xs (at_number (n + size (loop e a m k)) (n + 1 + size_block a) xs (omega arith) h)),
   )
   ascend n (switch v arms m) xs h =
-      behind n (join_note n m) (arms_notes (n + 1) arms) xs
+      following n (join_note n m) (arms_notes (n + 1) arms) xs
       (join_ascends n m (arms_notes (n + 1) arms ++ xs)
       (arms_ascend (n + 1) arms xs (at_number (n + size (switch v arms m)) (n + 1 + size_arms arms) xs (omega arith) h)))
   ascend n (focus y z a) xs h = from_less n (n + 1) (block_notes (n + 1) a ++ xs) (omega arith)
@@ -62,7 +62,7 @@ mutual
   list_ascend : (n : ℕ) (ss : Drafts) (xs : List Note) → Ascend (n + size_list ss) xs → Ascend n (list_notes n ss ++ xs)
   list_ascend n done xs h = at_number (n + 0) n xs (omega arith) h
   list_ascend n (next f rest) xs h =
-      behind n (notes_of n f) (list_notes (n + size f) rest) xs
+      following n (notes_of n f) (list_notes (n + size f) rest) xs
       (ascend n f (list_notes (n + size f) rest ++ xs)
       (list_ascend (n + size f) rest xs (at_number (n + size_list (next f rest)) (n + size f + size_list rest) xs
       (omega arith) h)))
@@ -70,7 +70,7 @@ mutual
   arms_ascend : (n : ℕ) (arms : Arms) (xs : List Note) → Ascend (n + size_arms arms) xs → Ascend n (arms_notes n arms ++ xs)
   arms_ascend n no_arms xs h = at_number (n + 0) n xs (omega arith) h
   arms_ascend n (arm c vs b rest) xs h =
-      behind n (block_notes n b) (arms_notes (n + size_block b) rest) xs
+      following n (block_notes n b) (arms_notes (n + size_block b) rest) xs
       (block_ascend n b (arms_notes (n + size_block b) rest ++ xs)
       (arms_ascend (n + size_block b) rest xs (at_number (n + size_arms (arm c vs b rest))
       (n + size_block b + size_arms rest) xs (omega arith) h)))
@@ -90,13 +90,13 @@ older_around : (x : Note) (xs : List Note) (n : ℕ) → number_of x < n → aro
 older_around (at_loop m a k) xs n h = ap (λ b. if b then a else around_of xs n) (unlike m n h)
 older_around (at_join m a) xs n h = refl
 
-older_behind : (x : Note) (xs : List Note) (n : ℕ) → number_of x < n → behind_of (x ∷ xs) n ≡ behind_of xs n
-older_behind (at_loop m a k) xs n h = ap (λ b. if b then k else behind_of xs n) (unlike m n h)
-older_behind (at_join m a) xs n h = ap (λ b. if b then a else behind_of xs n) (unlike m n h)
+older_after : (x : Note) (xs : List Note) (n : ℕ) → number_of x < n → following_of (x ∷ xs) n ≡ following_of xs n
+older_after (at_loop m a k) xs n h = ap (λ b. if b then k else following_of xs n) (unlike m n h)
+older_after (at_join m a) xs n h = ap (λ b. if b then a else following_of xs n) (unlike m n h)
 
 still : (x : Note) (xs : List Note) (y : Note) → number_of x < number_of y → Says (maps_of xs) y → Says (maps_of (x ∷ xs)) y
-still x xs (at_loop n m k) h s = (older_around x xs n h ∙ s.0, older_behind x xs n h ∙ s.1)
-still x xs (at_join n m) h s = older_behind x xs n h ∙ s
+still x xs (at_loop n m k) h s = (older_around x xs n h ∙ s.0, older_after x xs n h ∙ s.1)
+still x xs (at_join n m) h s = older_after x xs n h ∙ s
 
 all_still : (x : Note) (xs ys : List Note) (least : ℕ) → number_of x < least → Ascend least ys → All (Says (maps_of xs)) ys →
     All (Says (maps_of (x ∷ xs))) ys
@@ -105,8 +105,8 @@ all_still x xs (y ∷ ys) least h a s =
     (still x xs y (omega (arith, h, a.0)) s.0, all_still x xs ys (suc (number_of y)) (omega (arith, h, a.0)) a.1 s.1)
 
 own : (x : Note) (xs : List Note) → Says (maps_of (x ∷ xs)) x
-own (at_loop n m k) xs = (ap (λ b. if b then m else around_of xs n) (alike n), ap (λ b. if b then k else behind_of xs n) (alike n))
-own (at_join n m) xs = ap (λ b. if b then m else behind_of xs n) (alike n)
+own (at_loop n m k) xs = (ap (λ b. if b then m else around_of xs n) (alike n), ap (λ b. if b then k else following_of xs n) (alike n))
+own (at_join n m) xs = ap (λ b. if b then m else following_of xs n) (alike n)
 
 pub all_said : (xs : List Note) (least : ℕ) → Ascend least xs → All (Says (maps_of xs)) xs
 all_said [] least a = tt

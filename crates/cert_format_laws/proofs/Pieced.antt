@@ -78,7 +78,7 @@ body_first o t phase d ds f is order bounds = by (listed (suc (length rs)) 1 f.6
         in_order = order;
         bounds = bounds;
         rows = (here.1, y.fits);
-        said = subst (AreTaken 1 f.6 x.drafts) (sym y.behind) x.taken;
+        said = subst (AreTaken 1 f.6 x.drafts) (sym y.following) x.taken;
       };
     }
 

@@ -111,12 +111,12 @@ mutual
 -- ---- maps that notes give
 
 abbrev pub Says : MapNotes → Note → Type 0
-Says a (at_loop n m k) = (a.around n ≡ m) × (a.behind n ≡ k)
-Says a (at_join n m) = a.behind n ≡ m
+Says a (at_loop n m k) = (a.around n ≡ m) × (a.following n ≡ k)
+Says a (at_join n m) = a.following n ≡ m
 
 -- 0 stands where the statement ends, else the maps of its note
 join_back : (a : MapNotes) (n : ℕ) (e : Bool) (k : Ending) (m : Option Maps) → k ≡ ended e → agrees k m ≡ true →
-    All (Says a) (join_note n m) → join_of e (a.behind n) ≡ m
+    All (Says a) (join_note n m) → join_of e (a.following n) ≡ m
 join_back a n true k None is so h = refl
 join_back a n true k (Some m) is so h = no (sym (ap (λ x. agrees x (Some m)) is) ∙ so)
 join_back a n false k None is so h = no (sym (ap (λ x. agrees x None) is) ∙ so)
@@ -153,24 +153,24 @@ module _ (a : MapNotes) where
         let ok = agreed (agrees (both (block_ending x) (block_ending y)) m)
         (or_else (wrong_block (at + 1) x) (wrong_block (at + 1 + size_block x) y)) at r0 in
         let parts = first_none (wrong_block (at + 1) x) (wrong_block (at + 1 + size_block x) y) ok.1 in
-        let behind = all_right (Says a) (join_note n m) (block_notes (n + 1) x ++ block_notes (n + 1 + size_block x) y) h in
+        let following = all_right (Says a) (join_note n m) (block_notes (n + 1) x ++ block_notes (n + 1 + size_block x) y) h in
         ap (λ b. choose e b (block_draft a (n + 1 + count_block (core_block x)) (core_block y))
-        (join_of (ends (form_of (choose e x y m))) (a.behind n)))
+        (join_of (ends (form_of (choose e x y m))) (a.following n)))
         (block_redrafted (n + 1) (at + 1) (suc deep) x _ q.0 t.1 parts.0
-        (all_left (Says a) (block_notes (n + 1) x) (block_notes (n + 1 + size_block x) y) behind))
-        ∙ ap (λ k. choose e x (block_draft a (n + 1 + k) (core_block y)) (join_of (ends (form_of (choose e x y m))) (a.behind n))) (block_sizes x)
-        ∙ ap (λ b. choose e x b (join_of (ends (form_of (choose e x y m))) (a.behind n)))
+        (all_left (Says a) (block_notes (n + 1) x) (block_notes (n + 1 + size_block x) y) following))
+        ∙ ap (λ k. choose e x (block_draft a (n + 1 + k) (core_block y)) (join_of (ends (form_of (choose e x y m))) (a.following n))) (block_sizes x)
+        ∙ ap (λ b. choose e x b (join_of (ends (form_of (choose e x y m))) (a.following n)))
         (block_redrafted (n + 1 + size_block x) (at + 1 + size_block x) (suc deep) y more q.1 (t.2 q.0) parts.1
-        (all_right (Says a) (block_notes (n + 1) x) (block_notes (n + 1 + size_block x) y) behind))
+        (all_right (Says a) (block_notes (n + 1) x) (block_notes (n + 1 + size_block x) y) following))
         ∙ ap (choose e x y) (join_back a n (ends (form_of (choose e x y m))) (ending (choose e x y m)) m
         (knows deep (choose e x y m) more w t) ok.0
         (all_left (Says a) (join_note n m) (block_notes (n + 1) x ++ block_notes (n + 1 + size_block x) y) h))
     redrafted n at deep (loop e x m k) more w t r0 h =
-        ap (λ b. loop e b (a.around n) (a.behind n)) (block_redrafted (n + 1) (at + 1) (suc deep) x more w t.1 r0 h.1)
-        ∙ ap (λ z. loop e x z (a.behind n)) h.0.0 ∙ ap (loop e x m) h.0.1
+        ap (λ b. loop e b (a.around n) (a.following n)) (block_redrafted (n + 1) (at + 1) (suc deep) x more w t.1 r0 h.1)
+        ∙ ap (λ z. loop e x z (a.following n)) h.0.0 ∙ ap (loop e x m) h.0.1
     redrafted n at deep (switch v arms m) more w t r0 h =
         let ok = agreed (agrees (arms_ending arms) m) (wrong_arms (at + 1) arms) at r0 in
-        ap (λ b. switch v b (join_of (ends (form_of (switch v arms m))) (a.behind n)))
+        ap (λ b. switch v b (join_of (ends (form_of (switch v arms m))) (a.following n)))
         (arms_redrafted (n + 1) (at + 1) (suc deep) arms more w t.1 ok.1 (all_right (Says a) (join_note n m) (arms_notes (n + 1) arms) h))
         ∙ ap (switch v arms) (join_back a n (ends (form_of (switch v arms m))) (ending (switch v arms m)) m
         (knows deep (switch v arms m) more w t) ok.0 (all_left (Says a) (join_note n m) (arms_notes (n + 1) arms) h))
@@ -323,13 +323,13 @@ module _ (a : MapNotes) where
     right n at (core.simple s) = refl
     right n at (core.call f target keys args) = refl
     right n at (core.choose e x y) =
-        none_else (agrees (ending (draft_of a n (core.choose e x y))) (join_of (ends (core.choose e x y)) (a.behind n))) _ at
-        (agrees_so (ends (core.choose e x y)) (a.behind n) (ending (draft_of a n (core.choose e x y))) (drafted_known n (core.choose e x y)))
+        none_else (agrees (ending (draft_of a n (core.choose e x y))) (join_of (ends (core.choose e x y)) (a.following n))) _ at
+        (agrees_so (ends (core.choose e x y)) (a.following n) (ending (draft_of a n (core.choose e x y))) (drafted_known n (core.choose e x y)))
         (neither _ _ (block_right (n + 1) (at + 1) x) (block_right (n + 1 + count_block x) (at + 1 + size_block (block_draft a (n + 1) x)) y))
     right n at (core.loop e x) = block_right (n + 1) (at + 1) x
     right n at (core.switch v arms end) =
-        none_else (agrees (ending (draft_of a n (core.switch v arms end))) (join_of (ends (core.switch v arms end)) (a.behind n))) _ at
-        (agrees_so (ends (core.switch v arms end)) (a.behind n) (ending (draft_of a n (core.switch v arms end)))
+        none_else (agrees (ending (draft_of a n (core.switch v arms end))) (join_of (ends (core.switch v arms end)) (a.following n))) _ at
+        (agrees_so (ends (core.switch v arms end)) (a.following n) (ending (draft_of a n (core.switch v arms end)))
         (drafted_known n (core.switch v arms end)))
         (arms_right (n + 1) (at + 1) arms)
     right n at (core.focus y z x) = block_right (n + 1) (at + 1) x

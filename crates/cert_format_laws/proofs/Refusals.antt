@@ -137,7 +137,7 @@ bound_3 : refused ((list ((string (118 ∷ 97 ∷ 117 ∷ 108 ∷ 116 ∷ [])) �
     (nat 1) ∷ [])) ∷ (list ((string (114 ∷ 101 ∷ 116 ∷ 117 ∷ 114 ∷ 110 ∷ [])) ∷ (nat 0) ∷ [])) ∷ []) ≡ Some 3
 bound_3 = refl
 
-bound_behind : refused ((list ((string (118 ∷ 97 ∷ 117 ∷ 108 ∷ 116 ∷ [])) ∷ (nat 2) ∷ [])) ∷
+bound_after : refused ((list ((string (118 ∷ 97 ∷ 117 ∷ 108 ∷ 116 ∷ [])) ∷ (nat 2) ∷ [])) ∷
     (list ((string (115 ∷ 116 ∷ 97 ∷ 116 ∷ 101 ∷ 115 ∷ [])) ∷ (string (108 ∷ 101 ∷ 118 ∷ 101 ∷ 108 ∷ [])) ∷
     (list ((string (108 ∷ 111 ∷ 119 ∷ [])) ∷ (string (109 ∷ 105 ∷ 100 ∷ [])) ∷ (string (104 ∷ 105 ∷ 103 ∷ 104 ∷ [])) ∷ [])) ∷
     (list ((list ((nat 0) ∷ (nat 1) ∷ [])) ∷ (list ((nat 1) ∷ (nat 2) ∷ [])) ∷ [])) ∷ [])) ∷
@@ -145,7 +145,7 @@ bound_behind : refused ((list ((string (118 ∷ 97 ∷ 117 ∷ 108 ∷ 116 ∷ [
     (list ((string (102 ∷ 110 ∷ [])) ∷ (string (109 ∷ 97 ∷ 105 ∷ 110 ∷ [])) ∷ (list ((string (118 ∷ 111 ∷ 105 ∷ 100 ∷ [])) ∷ [])) ∷ (nat 0) ∷
     (list ((list ((nat 4) ∷ (nat 0) ∷ (nat 1) ∷ (nat 0) ∷ [])) ∷ [])) ∷ (list ((list ((string (75 ∷ [])) ∷ (nat 0) ∷ [])) ∷ [])) ∷ (list ([])) ∷ (nat 1) ∷ [])) ∷
     (list ((string (114 ∷ 101 ∷ 116 ∷ 117 ∷ 114 ∷ 110 ∷ [])) ∷ (nat 0) ∷ [])) ∷ []) ≡ Some 3
-bound_behind = refl
+bound_after = refl
 
 bound_minus : refused ((list ((string (118 ∷ 97 ∷ 117 ∷ 108 ∷ 116 ∷ [])) ∷ (nat 2) ∷ [])) ∷
     (list ((string (115 ∷ 116 ∷ 97 ∷ 116 ∷ 101 ∷ 115 ∷ [])) ∷ (string (108 ∷ 101 ∷ 118 ∷ 101 ∷ 108 ∷ [])) ∷
@@ -442,16 +442,16 @@ join_array_ends : refused ((list ((string (118 ∷ 97 ∷ 117 ∷ 108 ∷ 116 �
 unfolding leads_up
 join_array_ends = refl
 
-set_behind_type : refused ((list ((string (118 ∷ 97 ∷ 117 ∷ 108 ∷ 116 ∷ [])) ∷ (nat 1) ∷ [])) ∷
+set_after_type : refused ((list ((string (118 ∷ 97 ∷ 117 ∷ 108 ∷ 116 ∷ [])) ∷ (nat 1) ∷ [])) ∷
     (list ((string (97 ∷ 98 ∷ 115 ∷ 116 ∷ 114 ∷ 97 ∷ 99 ∷ 116 ∷ [])) ∷ (string (97 ∷ [])) ∷ (number (negative (negsuc 0))) ∷ [])) ∷
     (list ((string (115 ∷ 116 ∷ 97 ∷ 116 ∷ 101 ∷ 115 ∷ [])) ∷ (string (115 ∷ [])) ∷ (list ((string (97 ∷ [])) ∷ [])) ∷ [])) ∷ []) ≡ Some 2
-set_behind_type = refl
+set_after_type = refl
 
-type_behind_function : refused ((list ((string (118 ∷ 97 ∷ 117 ∷ 108 ∷ 116 ∷ [])) ∷ (nat 1) ∷ [])) ∷
+type_after_function : refused ((list ((string (118 ∷ 97 ∷ 117 ∷ 108 ∷ 116 ∷ [])) ∷ (nat 1) ∷ [])) ∷
     (list ((string (102 ∷ 110 ∷ [])) ∷ (string (109 ∷ 97 ∷ 105 ∷ 110 ∷ [])) ∷ (list ((string (118 ∷ 111 ∷ 105 ∷ 100 ∷ [])) ∷ [])) ∷ (nat 0) ∷ (list ([])) ∷ (list ([])) ∷
     (list ([])) ∷ (nat 1) ∷ [])) ∷ (list ((string (114 ∷ 101 ∷ 116 ∷ 117 ∷ 114 ∷ 110 ∷ [])) ∷ (nat 0) ∷ [])) ∷
     (list ((string (97 ∷ 98 ∷ 115 ∷ 116 ∷ 114 ∷ 97 ∷ 99 ∷ 116 ∷ [])) ∷ (string (97 ∷ [])) ∷ (number (negative (negsuc 0))) ∷ [])) ∷ []) ≡ Some 3
-type_behind_function = refl
+type_after_function = refl
 
 case_alone : refused ((list ((string (118 ∷ 97 ∷ 117 ∷ 108 ∷ 116 ∷ [])) ∷ (nat 1) ∷ [])) ∷
     (list ((string (99 ∷ 97 ∷ 115 ∷ 101 ∷ [])) ∷ (string (99 ∷ [])) ∷ (list ([])) ∷ (list ([])) ∷ [])) ∷ []) ≡ Some 1

@@ -20,7 +20,7 @@ pub record IsReadBack (a : MapNotes) (ss : core.Stmts) (x : Drafts)
     (more rest : Rest) : Type 0 where
   pub body : core_list x ≡ unplaced_stmts ss
   pub notes : list_notes 0 x ≡ list_notes 0 (list_draft a 0 ss)
-  pub behind : rest ≡ more
+  pub following : rest ≡ more
 
 abbrev pub BodiesAreReadBack : Type 0
 BodiesAreReadBack =

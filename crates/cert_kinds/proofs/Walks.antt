@@ -69,13 +69,13 @@ left x ids last is = rw (is.vars, is.keys, is.bound) refl
 -- ---- blocks
 
 pub block_ids : (p : Program) (f : Func) (b : Block) (x : Outer) (ids mid last : Ids) → Remembers x ids →
-    mid ≡ s.ids_behind_stmts p f (stmts_of (out-Block b).stmts) (at_block_start ids) → last ≡ left_with x mid →
-    last ≡ s.ids_behind_block p f (block_of b) ids
+    mid ≡ s.ids_following_stmts p f (stmts_of (out-Block b).stmts) (at_block_start ids) → last ≡ left_with x mid →
+    last ≡ s.ids_following_block p f (block_of b) ids
 block_ids p f b x ids mid last is em el =
-    el ∙ left x ids mid is ∙ ap (left_behind ids) em ∙ sym (ap (λ v. s.ids_behind_block p f v ids) (block_parts b))
+    el ∙ left x ids mid is ∙ ap (left_behind ids) em ∙ sym (ap (λ v. s.ids_following_block p f v ids) (block_parts b))
 
 pub block_walked : (p : Program) (f : Func) (around : Around) (b : Block) (toks : List core.Tok) (ids mid : Ids) (t : Tally) (x : Walked) →
-    mid ≡ s.ids_behind_stmts p f (stmts_of (out-Block b).stmts) (at_block_start ids) →
+    mid ≡ s.ids_following_stmts p f (stmts_of (out-Block b).stmts) (at_block_start ids) →
     x.rule ≡ least (s.tokens_broken f (map tok_of (out-Block b).bound) (toks ++ mid.bound)) →
     tally_of x.tally ≡ tallied t (s.stmts_rows p f around (at_block_start ids) false (stmts_of (out-Block b).stmts)) →
     IsWalked x (s.list_broken p f toks ids (block_of b)) (tallied t (s.block_rows p f around ids (block_of b)))
@@ -88,22 +88,22 @@ block_walked p f around b toks ids mid t x em er et = record {
 -- ---- where a loop comes to the next statement
 
 module _ (p : Program) (f : Func) (around : Around) (xs : List Stmt) (i : ℕ) (x : Stmt) (is : x ≡ get_or xs i x) (lt : i < length xs) where
-  pub next_stmt_rows : (ids after : Ids) (ended ends : Bool) (t new : Tally) → after ≡ s.ids_behind p f (form_of x.form) ids →
+  pub next_stmt_rows : (ids after : Ids) (ended ends : Bool) (t new : Tally) → after ≡ s.ids_following p f (form_of x.form) ids →
       ends ≡ s.ends (form_of x.form) →
-      new ≡ tallied t ((unless (not ended) rule.BEHIND_END ++ s.row_broken p f around ids (form_of x.form)) ∷ s.form_rows p f around ids (form_of x.form)) →
+      new ≡ tallied t ((unless (not ended) rule.AFTER_END ++ s.row_broken p f around ids (form_of x.form)) ∷ s.form_rows p f around ids (form_of x.form)) →
       tallied t (s.stmts_rows p f around ids ended (stmts_of (drop i xs))) ≡ tallied new (s.stmts_rows p f around after ends (stmts_of (drop (i + 1) xs)))
   next_stmt_rows ids after ended ends t new ea ee en =
-      let rest = s.stmts_rows p f around (s.ids_behind p f (form_of x.form) ids) (s.ends (form_of x.form)) (stmts_of (drop (i + 1) xs)) in
+      let rest = s.stmts_rows p f around (s.ids_following p f (form_of x.form) ids) (s.ends (form_of x.form)) (stmts_of (drop (i + 1) xs)) in
       ap (λ ss. tallied t (s.stmts_rows p f around ids ended ss)) (stmts_more xs i x is lt)
-      ∙ both t ((unless (not ended) rule.BEHIND_END ++ s.row_broken p f around ids (form_of x.form)) ∷ s.form_rows p f around ids (form_of x.form)) rest
+      ∙ both t ((unless (not ended) rule.AFTER_END ++ s.row_broken p f around ids (form_of x.form)) ∷ s.form_rows p f around ids (form_of x.form)) rest
       ∙ ap (λ u. tallied u rest) (sym en)
       ∙ ap (λ j. tallied new (s.stmts_rows p f around j (s.ends (form_of x.form)) (stmts_of (drop (i + 1) xs)))) (sym ea)
       ∙ ap (λ e. tallied new (s.stmts_rows p f around after e (stmts_of (drop (i + 1) xs)))) (sym ee)
 
-  pub next_stmt_ids : (ids after : Ids) → after ≡ s.ids_behind p f (form_of x.form) ids →
-      s.ids_behind_stmts p f (stmts_of (drop i xs)) ids ≡ s.ids_behind_stmts p f (stmts_of (drop (i + 1) xs)) after
+  pub next_stmt_ids : (ids after : Ids) → after ≡ s.ids_following p f (form_of x.form) ids →
+      s.ids_following_stmts p f (stmts_of (drop i xs)) ids ≡ s.ids_following_stmts p f (stmts_of (drop (i + 1) xs)) after
   next_stmt_ids ids after ea =
-      ap (λ ss. s.ids_behind_stmts p f ss ids) (stmts_more xs i x is lt) ∙ ap (s.ids_behind_stmts p f (stmts_of (drop (i + 1) xs))) (sym ea)
+      ap (λ ss. s.ids_following_stmts p f ss ids) (stmts_more xs i x is lt) ∙ ap (s.ids_following_stmts p f (stmts_of (drop (i + 1) xs))) (sym ea)
 
 -- ---- where a loop comes to the next arm
 
@@ -112,10 +112,10 @@ module _ (p : Program) (f : Func) (xs : List Arm) (i : ℕ) (x : Arm) (is : x �
       own ≡ least (s.arm_broken p f ids v (out-Arm x).case (vars_of (out-Arm x).vars)) →
       inside ≡ least (s.list_broken p f (s.owning_toks f (vars_of (out-Arm x).vars)) (s.with_vars f (vars_of (out-Arm x).vars) ids) (block_of (out-Arm x).body)) →
       new ≡ lesser (lesser all own) inside →
-      after ≡ left_behind ids (s.ids_behind_block p f (block_of (out-Arm x).body) (s.with_vars f (vars_of (out-Arm x).vars) ids)) →
+      after ≡ left_behind ids (s.ids_following_block p f (block_of (out-Arm x).body) (s.with_vars f (vars_of (out-Arm x).vars) ids)) →
       lesser all (least (s.arms_broken p f ids v (arms_of (drop i xs)))) ≡ lesser new (least (s.arms_broken p f after v (arms_of (drop (i + 1) xs))))
   next_arm_rule v ids after all own inside new eo ei en ea =
-      let mid = left_behind ids (s.ids_behind_block p f (block_of (out-Arm x).body) (s.with_vars f (vars_of (out-Arm x).vars) ids)) in
+      let mid = left_behind ids (s.ids_following_block p f (block_of (out-Arm x).body) (s.with_vars f (vars_of (out-Arm x).vars) ids)) in
       let a = s.arm_broken p f ids v (out-Arm x).case (vars_of (out-Arm x).vars) in
       let b = s.list_broken p f (s.owning_toks f (vars_of (out-Arm x).vars)) (s.with_vars f (vars_of (out-Arm x).vars) ids) (block_of (out-Arm x).body) in
       let rest = s.arms_broken p f mid v (arms_of (drop (i + 1) xs)) in
@@ -131,10 +131,10 @@ module _ (p : Program) (f : Func) (xs : List Arm) (i : ℕ) (x : Arm) (is : x �
 
   pub next_arm_rows : (around : Around) (ids after : Ids) (t new : Tally) →
       new ≡ tallied t (s.block_rows p f around (s.with_vars f (vars_of (out-Arm x).vars) ids) (block_of (out-Arm x).body)) →
-      after ≡ left_behind ids (s.ids_behind_block p f (block_of (out-Arm x).body) (s.with_vars f (vars_of (out-Arm x).vars) ids)) →
+      after ≡ left_behind ids (s.ids_following_block p f (block_of (out-Arm x).body) (s.with_vars f (vars_of (out-Arm x).vars) ids)) →
       tallied t (s.arms_rows p f around ids (arms_of (drop i xs))) ≡ tallied new (s.arms_rows p f around after (arms_of (drop (i + 1) xs)))
   next_arm_rows around ids after t new en ea =
-      let mid = left_behind ids (s.ids_behind_block p f (block_of (out-Arm x).body) (s.with_vars f (vars_of (out-Arm x).vars) ids)) in
+      let mid = left_behind ids (s.ids_following_block p f (block_of (out-Arm x).body) (s.with_vars f (vars_of (out-Arm x).vars) ids)) in
       let rest = s.arms_rows p f around mid (arms_of (drop (i + 1) xs)) in
       ap (λ ys. tallied t (s.arms_rows p f around ids ys)) (arms_more xs i x is lt)
       ∙ both t (s.block_rows p f around (s.with_vars f (vars_of (out-Arm x).vars) ids) (block_of (out-Arm x).body)) rest
@@ -142,12 +142,12 @@ module _ (p : Program) (f : Func) (xs : List Arm) (i : ℕ) (x : Arm) (is : x �
       ∙ ap (λ j. tallied new (s.arms_rows p f around j (arms_of (drop (i + 1) xs)))) (sym ea)
 
   pub next_arm_ids : (ids after : Ids) →
-      after ≡ left_behind ids (s.ids_behind_block p f (block_of (out-Arm x).body) (s.with_vars f (vars_of (out-Arm x).vars) ids)) →
-      s.ids_behind_arms p f (arms_of (drop i xs)) ids ≡ s.ids_behind_arms p f (arms_of (drop (i + 1) xs)) after
+      after ≡ left_behind ids (s.ids_following_block p f (block_of (out-Arm x).body) (s.with_vars f (vars_of (out-Arm x).vars) ids)) →
+      s.ids_following_arms p f (arms_of (drop i xs)) ids ≡ s.ids_following_arms p f (arms_of (drop (i + 1) xs)) after
   next_arm_ids ids after ea =
-      ap (λ ys. s.ids_behind_arms p f ys ids) (arms_more xs i x is lt) ∙ ap (s.ids_behind_arms p f (arms_of (drop (i + 1) xs))) (sym ea)
+      ap (λ ys. s.ids_following_arms p f ys ids) (arms_more xs i x is lt) ∙ ap (s.ids_following_arms p f (arms_of (drop (i + 1) xs))) (sym ea)
 
 -- an arm is left, or a focus
 pub left_block : (p : Program) (f : Func) (b : Block) (o : Outer) (ids inner last after : Ids) → Remembers o ids →
-    last ≡ s.ids_behind_block p f (block_of b) inner → after ≡ left_with o last → after ≡ left_behind ids (s.ids_behind_block p f (block_of b) inner)
+    last ≡ s.ids_following_block p f (block_of b) inner → after ≡ left_with o last → after ≡ left_behind ids (s.ids_following_block p f (block_of b) inner)
 left_block p f b o ids inner last after io el ea = ea ∙ left o ids last io ∙ ap (left_behind ids) el

@@ -2,9 +2,8 @@
 //! the last is put in first.
 
 ghost use Rattle.std.specs.Prelude.{◌≡◌, ◌∷◌, ◌++◌, reverse, IfOk, OnOk};
-ghost use Rattle.std.specs.Option.{option_map};
-ghost use Rattle.std.specs.List.{flat_map, range_with_len};
-ghost use Rattle.vlt_core.specs.View.{func_of, ty_of, var_of, entry_of, keys_of, vars_of};
+ghost use Rattle.std.specs.List.{range_with_len};
+ghost use Rattle.vlt_core.specs.View.{func_of, ty_of, keys_of, vars_of};
 ghost use Rattle.vlt_core.specs.Types.{keys_of_ty};
 ghost use Rattle.vlt_core.specs.KindedHeads as heads;
 ghost use Rattle.vlt_core.specs.KindedBodies as s;

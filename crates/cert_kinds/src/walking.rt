@@ -63,7 +63,7 @@ fn walk_form(
         (ids_of ids.old) (form_of form.now))
         (tallied (tally_of tally) (s.form_rows (program_in scope.now) (func_in scope.now)
         (around_of around) (ids_of ids.old) (form_of form.now)))) }
-    ensures ids { OnOk result (ids_of ids.new ≡ s.ids_behind (program_in scope.now)
+    ensures ids { OnOk result (ids_of ids.new ≡ s.ids_following (program_in scope.now)
         (func_in scope.now) (form_of form.now) (ids_of ids.old)) }
 {
     match form {
@@ -122,7 +122,7 @@ fn walk_block(
         (block_of block.now))
         (tallied (tally_of tally) (s.block_rows (program_in scope.now) (func_in scope.now)
         (around_of around) (ids_of ids.old) (block_of block.now)))) }
-    ensures ids { OnOk result (ids_of ids.new ≡ s.ids_behind_block (program_in scope.now)
+    ensures ids { OnOk result (ids_of ids.new ≡ s.ids_following_block (program_in scope.now)
         (func_in scope.now) (block_of block.now) (ids_of ids.old)) }
 {
     let outer = remember(alloc, ids)?;
@@ -147,14 +147,14 @@ pub fn walk_stmts(
     ensures tally { IfOk result (λ x. tally_of x ≡ tallied (tally_of tally)
         (s.stmts_rows (program_in scope.now) (func_in scope.now) (around_of around)
         (ids_of ids.old) false (stmts_of stmts.now))) }
-    ensures ids { OnOk result (ids_of ids.new ≡ s.ids_behind_stmts (program_in scope.now)
+    ensures ids { OnOk result (ids_of ids.new ≡ s.ids_following_stmts (program_in scope.now)
         (func_in scope.now) (stmts_of stmts.now) (ids_of ids.old)) }
 {
     let mut all = tally;
     let mut ended = false;
     for stmt in stmts {
         let inside = walk_form(alloc, scope, around, ids, all.inside(), &stmt.form)?;
-        all = all.with_stmt(unless(!ended, rules::BEHIND_END), inside);
+        all = all.with_stmt(unless(!ended, rules::AFTER_END), inside);
         ended = stmt_ends(&stmt.form);
     }
     Ok(all)
@@ -177,7 +177,7 @@ fn walk_arms(
         (arms_of arms.now))
         (tallied (tally_of tally) (s.arms_rows (program_in scope.now) (func_in scope.now)
         (around_of around) (ids_of ids.old) (arms_of arms.now)))) }
-    ensures ids { OnOk result (ids_of ids.new ≡ s.ids_behind_arms (program_in scope.now)
+    ensures ids { OnOk result (ids_of ids.new ≡ s.ids_following_arms (program_in scope.now)
         (func_in scope.now) (arms_of arms.now) (ids_of ids.old)) }
 {
     let mut all = Walked { rule: None, tally };

@@ -133,7 +133,7 @@ pub fn flat_broken(
     requires flat { z.is_flat (form_of form.now) ≡ true }
     ensures broken { IfOk result (λ found. found ≡ least (s.row_broken (program_in scope.now)
         (func_in scope.now) (z.around_of around) (ids_of ids.old) (form_of form.now))) }
-    ensures ids { OnOk result (ids_of ids.new ≡ s.ids_behind (program_in scope.now)
+    ensures ids { OnOk result (ids_of ids.new ≡ s.ids_following (program_in scope.now)
         (func_in scope.now) (form_of form.now) (ids_of ids.old)) }
 {
     let p = scope.program;

@@ -1,6 +1,6 @@
 //! What switches, their arms and foci break by themselves.
 
-ghost use Rattle.std.specs.Prelude.{◌≡◌, ◌==◌, ◌&&◌, nat_lt, map, length, Some, IfOk, OnOk};
+ghost use Rattle.std.specs.Prelude.{◌≡◌, ◌==◌, ◌&&◌, nat_lt, length, Some, IfOk, OnOk};
 ghost use Rattle.std.specs.List.{list_all};
 ghost use Rattle.vlt_core.specs.View.{program_of, func_of, vars_of, arms_of};
 ghost use Rattle.vlt_core.specs.Lookups as lookups;
@@ -9,7 +9,6 @@ ghost use Rattle.vlt_core.specs.KindedStatements as statements;
 ghost use Rattle.vlt_core.specs.KindedBodies as s;
 ghost use Rattle.cert_kinds_types.specs.Least.{least};
 ghost use Rattle.cert_kinds_exprs.specs.Scopes.{ids_of};
-ghost use Rattle.cert_kinds_exprs.specs.Seen.{seen_some};
 ghost use Rattle.cert_kinds_exprs.specs.Wanted.{wanted_types};
 ghost use Rattle.cert_kinds_stmts.specs.Opened.{opened_var_broken};
 ghost use Rattle.cert_kinds_blocks.specs.Switches as z;

@@ -1,6 +1,6 @@
 //! What a block's list of tokens breaks.
 
-ghost use Rattle.std.specs.Prelude.{◌≡◌, ◌++◌, map, filter, length, IfOk, OnOk};
+ghost use Rattle.std.specs.Prelude.{◌≡◌, ◌++◌, map, filter, IfOk, OnOk};
 ghost use Rattle.std.specs.Option.{option_map};
 ghost use Rattle.std.specs.List.{flat_map, range_with_len};
 ghost use Rattle.vlt_core.specs.View.{func_of, tok_of, vars_of};

@@ -1,7 +1,6 @@
 //! The caller's keys of a call: those of the callee's clause, and those in scope.
 
 ghost use Rattle.std.specs.Prelude.{◌≡◌, map, slice_get};
-ghost use Rattle.std.specs.Option.{option_map};
 ghost use Rattle.std.specs.List.{list_any, filter_map, enumerate_from};
 ghost use Rattle.vlt_core.specs.View.{func_of, keys_of, entry_of};
 ghost use Rattle.vlt_core.specs.KindedHeads.{are_apart};

@@ -1,6 +1,6 @@
 //! Whether the keys of a call fit those of the callee.
 
-ghost use Rattle.std.specs.Prelude.{◌≡◌, ◌||◌, not, nat_lt, map, length};
+ghost use Rattle.std.specs.Prelude.{◌≡◌, ◌||◌, not, nat_lt, map};
 ghost use Rattle.std.specs.List.{list_all, range_with_len};
 ghost use Rattle.vlt_core.specs.View.{func_of, ty_of, keys_of, var_of, entry_of};
 ghost use Rattle.vlt_core.specs.Lookups.{is_new};

@@ -1,8 +1,7 @@
 //! What the target of a call breaks.
 
-ghost use Rattle.std.specs.Prelude.{◌≡◌, not, Some, OnOk};
+ghost use Rattle.std.specs.Prelude.{◌≡◌, Some, OnOk};
 ghost use Rattle.std.specs.Option.{option_map};
-ghost use Rattle.std.specs.List.{list_any};
 ghost use Rattle.vlt_core.specs.View.{func_of, ty_of, keys_of};
 ghost use Rattle.vlt_core.specs.Lookups.{var_type};
 ghost use Rattle.vlt_core.specs.Types.{same_keys, args_of};

@@ -1,18 +1,18 @@
 //! What expressions and operands break.
 
-ghost use Rattle.std.specs.Prelude.{◌≡◌, ◌==◌, ◌||◌, not, nat_lt, map, Some, option_map, slice_get};
+ghost use Rattle.std.specs.Prelude.{◌≡◌, ◌==◌, ◌||◌, not, nat_lt, Some, option_map, slice_get};
 ghost use Rattle.std.specs.Option.{option_copied};
 ghost use Rattle.std.specs.List.{list_all};
 ghost use Rattle.vlt_base.specs.States.{has_state};
 ghost use Rattle.vlt_ops.specs.Operator.{row_of};
-ghost use Rattle.vlt_core.specs.View.{program_of, func_of, ty_of, keys_of, field_of, expr_of, operand_of};
+ghost use Rattle.vlt_core.specs.View.{program_of, func_of, ty_of, keys_of, field_of, expr_of};
 ghost use Rattle.vlt_core.specs.Lookups as lookups;
 ghost use Rattle.vlt_core.specs.Types as types;
 ghost use Rattle.vlt_core.specs.KindedHeads as heads;
 ghost use Rattle.vlt_core.specs.KindedOperands as s;
 ghost use Rattle.cert_kinds_types.specs.Least.{least};
 ghost use Rattle.cert_kinds_exprs.specs.Scopes.{ids_of};
-ghost use Rattle.cert_kinds_exprs.specs.Seen.{seen_of, seen_some, keys_seen};
+ghost use Rattle.cert_kinds_exprs.specs.Seen.{seen_of, seen_some};
 ghost use Rattle.cert_kinds_exprs.specs.Touched as z;
 
 use crate::scopes::{Ids, use_broken};

@@ -1,6 +1,6 @@
 //! What operands break.
 
-ghost use Rattle.std.specs.Prelude.{◌≡◌, map, length, Some, None, slice_get};
+ghost use Rattle.std.specs.Prelude.{◌≡◌, map, Some, None};
 ghost use Rattle.vlt_base.specs.States.{has_state};
 ghost use Rattle.vlt_core.specs.View.{program_of, func_of, expr_of, operand_of};
 ghost use Rattle.vlt_core.specs.Types as types;

@@ -1,6 +1,6 @@
 //! Types under keys: as they are written, or with keys in place of those of a declaration or of a callee.
 
-ghost use Rattle.std.specs.Prelude.{◌≡◌, ◌==◌, ◌&&◌, map, Some, option_map};
+ghost use Rattle.std.specs.Prelude.{◌≡◌, ◌==◌, ◌&&◌, map, Some};
 ghost use Rattle.std.specs.List.{list_all};
 ghost use Rattle.vlt_base.specs.States.{has_state};
 ghost use Rattle.vlt_core.specs.View.{ty_of, keys_of};

@@ -1,6 +1,6 @@
 //! The types that operands are wanted for.
 
-ghost use Rattle.std.specs.Prelude.{◌≡◌, map, Some, None, option_map, slice_get};
+ghost use Rattle.std.specs.Prelude.{◌≡◌, map, Some, None, slice_get};
 ghost use Rattle.vlt_core.specs.View.{ty_of, keys_of, field_of};
 ghost use Rattle.vlt_core.specs.Types.{with_keys};
 ghost use Rattle.cert_kinds_exprs.specs.Seen.{seen_some};

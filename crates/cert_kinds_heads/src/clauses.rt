@@ -1,8 +1,8 @@
 //! What the clause and the result of a head break.
 
-ghost use Rattle.std.specs.Prelude.{◌≡◌, ◌&&◌, not, map, filter, length, nat_le, Some, option_map};
+ghost use Rattle.std.specs.Prelude.{◌≡◌, ◌&&◌, map, filter, length, nat_le, Some};
 ghost use Rattle.std.specs.List.{flat_map, list_any};
-ghost use Rattle.vlt_core.specs.View.{program_of, func_of, ty_of, keys_of, var_of, entry_of, states_of, mode_of};
+ghost use Rattle.vlt_core.specs.View.{program_of, func_of, ty_of, keys_of, entry_of, states_of, mode_of};
 ghost use Rattle.vlt_core.specs.KindedHeads as s;
 ghost use Rattle.vlt_core.specs.Lookups as lookups;
 ghost use Rattle.vlt_core.specs.Types as types;

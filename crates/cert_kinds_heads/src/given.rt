@@ -2,9 +2,8 @@
 
 ghost use Rattle.std.specs.Prelude.{◌≡◌, map, Some, None, option_map};
 ghost use Rattle.std.specs.List.{flat_map};
-ghost use Rattle.vlt_core.specs.View.{program_of, func_of, ty_of, keys_of, header_of, var_of, entry_of};
+ghost use Rattle.vlt_core.specs.View.{program_of, func_of, ty_of, keys_of, header_of, var_of};
 ghost use Rattle.vlt_core.specs.KindedHeads as s;
-ghost use Rattle.cert_kinds_types.specs.Least.{least};
 ghost use Rattle.cert_kinds_heads.specs.Summaries as z;
 
 use crate::keys::{has_new, head_has, locals, parameters, parameters_have};

@@ -1,8 +1,8 @@
 //! What the types of a function and its keys break.
 
-ghost use Rattle.std.specs.Prelude.{◌≡◌, map, length, Some, option_map};
+ghost use Rattle.std.specs.Prelude.{◌≡◌, map, Some, option_map};
 ghost use Rattle.std.specs.List.{flat_map};
-ghost use Rattle.vlt_core.specs.View.{program_of, func_of, ty_of, keys_of, header_of, var_of, entry_of, key_of, states_of, mode_of};
+ghost use Rattle.vlt_core.specs.View.{program_of, func_of, ty_of, keys_of, header_of, var_of, key_of};
 ghost use Rattle.vlt_core.specs.KindedHeads as s;
 ghost use Rattle.vlt_core.specs.Types as types;
 ghost use Rattle.cert_kinds_types.specs.Least.{least};

@@ -1,6 +1,6 @@
 //! Which keys stand in a head.
 
-ghost use Rattle.std.specs.Prelude.{◌≡◌, ◌==◌, ◌||◌, ◌&&◌, not, map, drop, nat_lt, length};
+ghost use Rattle.std.specs.Prelude.{◌≡◌, ◌==◌, ◌||◌, ◌&&◌, map, drop, nat_lt, length};
 ghost use Rattle.std.specs.List.{list_any};
 ghost use Rattle.vlt_core.specs.View.{func_of, ty_of, keys_of, var_of, entry_of};
 ghost use Rattle.vlt_core.specs.KindedHeads as s;

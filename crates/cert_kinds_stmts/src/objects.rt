@@ -1,6 +1,6 @@
 //! What variables refer to, and which types are asked of them.
 
-ghost use Rattle.std.specs.Prelude.{◌≡◌, ◌&&◌, map, Some, option_map, slice_get};
+ghost use Rattle.std.specs.Prelude.{◌≡◌, ◌&&◌, Some, option_map, slice_get};
 ghost use Rattle.std.specs.Option.{option_copied};
 ghost use Rattle.vlt_core.specs.View.{program_of, func_of, ty_of, keys_of, case_of};
 ghost use Rattle.vlt_core.specs.Lookups as lookups;

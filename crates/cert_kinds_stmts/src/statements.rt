@@ -1,6 +1,6 @@
 //! What the rows of statements without blocks break, calls aside.
 
-ghost use Rattle.std.specs.Prelude.{◌≡◌, ◌==◌, map, length, Some, None, option_map, slice_get, if◌then◌else◌};
+ghost use Rattle.std.specs.Prelude.{◌≡◌, ◌==◌, map, length, Some, None, option_map, if◌then◌else◌};
 ghost use Rattle.std.specs.Option.{option_copied};
 ghost use Rattle.vlt_core.specs.View.{program_of, func_of, ty_of, keys_of, field_of, expr_of, operand_of};
 ghost use Rattle.vlt_core.specs.Core as core;

@@ -1,9 +1,8 @@
 //! A declared type by its number: its parts, and what it is.
 
-ghost use Rattle.std.specs.Prelude.{◌≡◌, ◌&&◌, ◌||◌, not, nat_lt, map, length, Some, is_some, slice_get};
+ghost use Rattle.std.specs.Prelude.{◌≡◌, ◌&&◌, ◌||◌, nat_lt, map, length, Some, is_some};
 ghost use Rattle.std.specs.Option.{option_map, option_copied};
-ghost use Rattle.std.specs.List.{list_any, list_all};
-ghost use Rattle.vlt_base.specs.States.{has_state};
+ghost use Rattle.std.specs.List.{list_any};
 ghost use Rattle.vlt_core.specs.View as view;
 ghost use Rattle.vlt_core.specs.View.{program_of, ty_of, type_of, field_of, case_of};
 ghost use Rattle.vlt_core.specs.Lookups as lookups;

@@ -1,8 +1,7 @@
 //! Which declared types may be dropped: marks on those from which a part is reached that no release may reach.
 
-ghost use Rattle.std.specs.Prelude.{◌≡◌, ◌||◌, ◌&&◌, not, suc, true, map, length, IfOk};
-ghost use Rattle.std.specs.List.{list_any, list_all};
-ghost use Rattle.vlt_base.specs.States.{has_state};
+ghost use Rattle.std.specs.Prelude.{◌≡◌, ◌||◌, ◌&&◌, suc, true, map, length, IfOk};
+ghost use Rattle.std.specs.List.{list_any};
 ghost use Rattle.vlt_core.specs.View as view;
 ghost use Rattle.vlt_core.specs.View.{program_of};
 ghost use Rattle.vlt_core.specs.Lookups as l;

@@ -1,6 +1,6 @@
 //! What declarations break, each row by itself.
 
-ghost use Rattle.std.specs.Prelude.{◌≡◌, map, Some, unwrap_or, option_map};
+ghost use Rattle.std.specs.Prelude.{◌≡◌, map, Some, option_map};
 ghost use Rattle.std.specs.List.{flat_map};
 ghost use Rattle.vlt_base.specs.States.{has_state};
 ghost use Rattle.vlt_core.specs.View.{program_of, ty_of, header_of, type_of, field_of, case_of, case_key_of};

@@ -1,6 +1,6 @@
 //! What a type's prefix, keys and arguments break, in a declaration.
 
-ghost use Rattle.std.specs.Prelude.{◌≡◌, ◌==◌, map, length, Some};
+ghost use Rattle.std.specs.Prelude.{◌≡◌, ◌==◌, length, Some};
 ghost use Rattle.std.specs.Option.{option_map};
 ghost use Rattle.std.specs.List.{flat_map};
 ghost use Rattle.vlt_base.specs.States.{has_state};

@@ -3,9 +3,9 @@ use Rattle.std.proofs.Common.{◌≡◌, ℕ, zero, suc, ◌==◌, Bool, true, f
 use Rattle.vlt_core.specs.Core.{Func, Program}
 use Rattle.vlt_core.specs.Instances.{instance}
 use Rattle.vlt_core.specs.Local.{IsLocalIn}
-use Rattle.vlt_core.specs.Least.{around_in, behind_in, notes_in}
+use Rattle.vlt_core.specs.Least.{around_in, after_in, notes_in}
 use Rattle.vlt_core_laws.proofs.Unbroken.{some_same, some_not_none}
-use Rattle.cert_format.specs.Notes.{Note, at_loop, at_join, around_of, behind_of}
+use Rattle.cert_format.specs.Notes.{Note, at_loop, at_join, around_of, following_of}
 use Rattle.cert_fit_laws.specs.Annotation.{annotation}
 use Rattle.cert_least_laws.specs.LeastNotes.{map_at, note_at, HasLeastNotes, HaveLeastNotes}
 use Rattle.cert_least_laws.specs.Laws.{LeastCertificatesAreLocal}
@@ -21,23 +21,23 @@ module _ (i : ℕ) where
       by more false = more
   same_around (at_join m maps ∷ notes) n = same_around notes n
 
-  same_behind : (notes : List Note) (n : ℕ) → map_at i (behind_of notes n) ≡ behind_in (map (note_at i) notes) n
-  same_behind [] n = refl
-  same_behind (at_loop m around exit ∷ notes) n = by (same_behind notes n) (m == n)
+  same_after : (notes : List Note) (n : ℕ) → map_at i (following_of notes n) ≡ after_in (map (note_at i) notes) n
+  same_after [] n = refl
+  same_after (at_loop m around exit ∷ notes) n = by (same_after notes n) (m == n)
     where
-      by : map_at i (behind_of notes n) ≡ behind_in (map (note_at i) notes) n → (b : Bool) →
-          map_at i (if b then exit else behind_of notes n) ≡ (if b then map_at i exit else behind_in (map (note_at i) notes) n)
+      by : map_at i (following_of notes n) ≡ after_in (map (note_at i) notes) n → (b : Bool) →
+          map_at i (if b then exit else following_of notes n) ≡ (if b then map_at i exit else after_in (map (note_at i) notes) n)
       by more true = refl
       by more false = more
-  same_behind (at_join m maps ∷ notes) n = by (same_behind notes n) (m == n)
+  same_after (at_join m maps ∷ notes) n = by (same_after notes n) (m == n)
     where
-      by : map_at i (behind_of notes n) ≡ behind_in (map (note_at i) notes) n → (b : Bool) →
-          map_at i (if b then maps else behind_of notes n) ≡ (if b then map_at i maps else behind_in (map (note_at i) notes) n)
+      by : map_at i (following_of notes n) ≡ after_in (map (note_at i) notes) n → (b : Bool) →
+          map_at i (if b then maps else following_of notes n) ≡ (if b then map_at i maps else after_in (map (note_at i) notes) n)
       by more true = refl
       by more false = more
 
   pub same_notes : (notes : List Note) → annotation notes i ≡ notes_in (map (note_at i) notes)
-  same_notes notes = λ j. record { around = λ n. same_around notes n j; behind = λ n. same_behind notes n j }
+  same_notes notes = λ j. record { around = λ n. same_around notes n j; following = λ n. same_after notes n j }
 
 -- the notes of one of the functions
 pub least_at : (p : Program) (fs : List Func) (all : List (List Note)) → HaveLeastNotes p fs all → (g : ℕ) (f : Func) (notes : List Note) →

@@ -6,7 +6,7 @@ use Rattle.vlt_core.specs.Core.{Func, Program}
 use Rattle.vlt_core.specs.Maps.{HeldMap, IsBelow}
 use Rattle.vlt_core.specs.Flow.{size_block}
 use Rattle.vlt_core.specs.Bodies.{body_flow}
-use Rattle.vlt_core.specs.Least.{Note, at_loop, at_join, Noted, a_loop, a_join, noted_by, around_in, behind_in, notes_in, LiesBelow, LieBelow, IsLeast}
+use Rattle.vlt_core.specs.Least.{Note, at_loop, at_join, Noted, a_loop, a_join, noted_by, around_in, after_in, notes_in, LiesBelow, LieBelow, IsLeast}
 use Rattle.vlt_core_laws.proofs.Binding.{on_true, on_false}
 use Rattle.cert_fit_laws.proofs.Named.{number_of, Climbs}
 use Rattle.cert_least_laws.proofs.Below.{same_map}
@@ -30,13 +30,13 @@ pub around_past : (y : Note) (ys : List Note) (n : ℕ) → suc (number_of (note
 around_past (at_loop m a e) ys n less = on_false (m == n) a (around_in ys n) (apart m n less)
 around_past (at_join m a) ys n less = refl
 
-pub behind_past : (y : Note) (ys : List Note) (n : ℕ) → suc (number_of (noted_by y)) ≤ n → behind_in (y ∷ ys) n ≡ behind_in ys n
-behind_past (at_loop m a e) ys n less = on_false (m == n) e (behind_in ys n) (apart m n less)
-behind_past (at_join m a) ys n less = on_false (m == n) a (behind_in ys n) (apart m n less)
+pub after_past : (y : Note) (ys : List Note) (n : ℕ) → suc (number_of (noted_by y)) ≤ n → after_in (y ∷ ys) n ≡ after_in ys n
+after_past (at_loop m a e) ys n less = on_false (m == n) e (after_in ys n) (apart m n less)
+after_past (at_join m a) ys n less = on_false (m == n) a (after_in ys n) (apart m n less)
 
 lies_past : (y : Note) (ys : List Note) (x : Note) → suc (number_of (noted_by y)) ≤ number_of (noted_by x) → LiesBelow (notes_in (y ∷ ys)) x → LiesBelow (notes_in ys) x
-lies_past y ys (at_loop n a e) less b = (subst (IsBelow a) (around_past y ys n less) b.0, subst (IsBelow e) (behind_past y ys n less) b.1)
-lies_past y ys (at_join n a) less b = subst (IsBelow a) (behind_past y ys n less) b
+lies_past y ys (at_loop n a e) less b = (subst (IsBelow a) (around_past y ys n less) b.0, subst (IsBelow e) (after_past y ys n less) b.1)
+lies_past y ys (at_join n a) less b = subst (IsBelow a) (after_past y ys n less) b
 
 lie_past : (y : Note) (ys xs : List Note) (m k : ℕ) → suc (number_of (noted_by y)) ≤ m → Climbs m k (map noted_by xs) → LieBelow (notes_in (y ∷ ys)) xs → LieBelow (notes_in ys) xs
 lie_past y ys [] m k less c b = tt
@@ -64,11 +64,11 @@ same_note : (x y : Note) (xs ys : List Note) → noted_by x ≡ noted_by y → L
 same_note (at_loop n a e) (at_loop m b f) xs ys same p q =
     let s = loop_same n m same in
     let one = same_map a b (first m n a b (around_in ys n) s p.0) (first n m b a (around_in xs m) (sym s) q.0) in
-    let two = same_map e f (first m n e f (behind_in ys n) s p.1) (first n m f e (behind_in xs m) (sym s) q.1) in
+    let two = same_map e f (first m n e f (after_in ys n) s p.1) (first n m f e (after_in xs m) (sym s) q.1) in
     ap (λ i. at_loop i a e) s ∙ (ap (λ h. at_loop m h e) one ∙ ap (λ h. at_loop m b h) two)
 same_note (at_join n a) (at_join m b) xs ys same p q =
     let s = join_same n m same in
-    ap (λ i. at_join i a) s ∙ ap (λ h. at_join m h) (same_map a b (first m n a b (behind_in ys n) s p) (first n m b a (behind_in xs m) (sym s) q))
+    ap (λ i. at_join i a) s ∙ ap (λ h. at_join m h) (same_map a b (first m n a b (after_in ys n) s p) (first n m b a (after_in xs m) (sym s) q))
 same_note (at_loop n a e) (at_join m b) xs ys same p q = absurd (not_same n m same)
 same_note (at_join n a) (at_loop m b f) xs ys same p q = absurd (not_same m n (sym same))
 

@@ -29,7 +29,7 @@ use Rattle.cert_values.specs.Heads.{token_status_of, listed_map}
 use Rattle.cert_format.specs.Bodies.{list_draft, list_notes}
 use Rattle.cert_format.specs.Bounds.{instances}
 use Rattle.cert_format.specs.Notes.{MapNotes}
-use Rattle.cert_write.specs.Notes.{around_in, behind_in, maps_in, fn_notes, notes_in, NotesAreKept}
+use Rattle.cert_write.specs.Notes.{around_in, after_in, maps_in, fn_notes, notes_in, NotesAreKept}
 use Rattle.cert_write.specs.Notes as written
 use Rattle.cert_fit_laws.specs.Annotation.{held_map, map_or_empty}
 use Rattle.cert_fit_laws.specs.Complete.{named_by, FitsNote}
@@ -81,13 +81,13 @@ module _ (list : List Annotation) (i : ℕ) (a : Annotation) (at : slice_get lis
   picked (a_loop n ∷ xs) =
       let rest = map (note_at i) (map (read (maps_in list)) xs) in
       let around = picked_map (λ a. around_in (written.note_at a.maps n)) in
-      let behind = picked_map (λ a. behind_in (written.note_at a.maps n)) in
-      ap (λ h. at_loop n h (map_at i ((maps_in list).behind n)) ∷ rest) around ∙
-      (ap (λ h. at_loop n (held_map (around_in (written.note_at a.maps n))) h ∷ rest) behind ∙
-      ap (λ ys. at_loop n (held_map (around_in (written.note_at a.maps n))) (held_map (behind_in (written.note_at a.maps n))) ∷ ys) (picked xs))
+      let following = picked_map (λ a. after_in (written.note_at a.maps n)) in
+      ap (λ h. at_loop n h (map_at i ((maps_in list).following n)) ∷ rest) around ∙
+      (ap (λ h. at_loop n (held_map (around_in (written.note_at a.maps n))) h ∷ rest) following ∙
+      ap (λ ys. at_loop n (held_map (around_in (written.note_at a.maps n))) (held_map (after_in (written.note_at a.maps n))) ∷ ys) (picked xs))
   picked (a_join n ∷ xs) =
       let rest = map (note_at i) (map (read (maps_in list)) xs) in
-      ap (λ h. at_join n h ∷ rest) (picked_map (λ a. behind_in (written.note_at a.maps n))) ∙ ap (λ ys. at_join n (held_map (behind_in (written.note_at a.maps n))) ∷ ys) (picked xs)
+      ap (λ h. at_join n h ∷ rest) (picked_map (λ a. after_in (written.note_at a.maps n))) ∙ ap (λ ys. at_join n (held_map (after_in (written.note_at a.maps n))) ∷ ys) (picked xs)
 
 -- ---- annotations of instances
 

@@ -21,7 +21,7 @@ use Rattle.cert_rows.specs.Values.{number_of_tok, token, token_status, ascends, 
 use Rattle.cert_fit_laws.specs.Complete.{FitsNote}
 use Rattle.cert_fit_laws.proofs.Named.{read}
 use Rattle.cert_values.specs.Heads.{token_status_of, listed_map}
-use Rattle.cert_write.specs.Notes.{number_of, note_at, around_in, behind_in, maps_in}
+use Rattle.cert_write.specs.Notes.{number_of, note_at, around_in, after_in, maps_in}
 use Rattle.cert_least_laws.proofs.Origins.{IsCount}
 use Rattle.cert_least_laws.proofs.OfBodies.Making.{maps_fit}
 use Rattle.vlt_core.specs.Least.{Noted, a_loop, a_join}
@@ -117,10 +117,10 @@ module _ (keys vars : ℕ) (few_keys : keys ≤ 256) (few_vars : vars ≤ 256) w
   around_fits (Some (V.Loop stmt around exit)) l = map_fits around l.0
   around_fits (Some (V.Join stmt m)) l = none_fits
 
-  behind_fits : (o : Option DN.Note) → IfSome o (IsListedNote keys vars) → map_part.Fits (behind_in o)
-  behind_fits None l = none_fits
-  behind_fits (Some (V.Loop stmt around exit)) l = map_fits exit l.1
-  behind_fits (Some (V.Join stmt m)) l = map_fits m l
+  after_fits : (o : Option DN.Note) → IfSome o (IsListedNote keys vars) → map_part.Fits (after_in o)
+  after_fits None l = none_fits
+  after_fits (Some (V.Loop stmt around exit)) l = map_fits exit l.1
+  after_fits (Some (V.Join stmt m)) l = map_fits m l
 
   found_listed : (xs : List DN.Note) (n : ℕ) → AreListed keys vars xs → IfSome (note_at xs n) (IsListedNote keys vars)
   found_listed [] n l = tt
@@ -134,9 +134,9 @@ module _ (keys vars : ℕ) (few_keys : keys ≤ 256) (few_vars : vars ≤ 256) w
   arounds_fit [] n l = tt
   arounds_fit (a ∷ list) n l = (around_fits (note_at a.maps n) (found_listed a.maps n l.0), arounds_fit list n l.1)
 
-  behinds_fit : (list : List Annotation) (n : ℕ) → All (λ (a : Annotation). AreListed keys vars a.maps) list → All map_part.Fits ((maps_in list).behind n)
-  behinds_fit [] n l = tt
-  behinds_fit (a ∷ list) n l = (behind_fits (note_at a.maps n) (found_listed a.maps n l.0), behinds_fit list n l.1)
+  followings_fit : (list : List Annotation) (n : ℕ) → All (λ (a : Annotation). AreListed keys vars a.maps) list → All map_part.Fits ((maps_in list).following n)
+  followings_fit [] n l = tt
+  followings_fit (a ∷ list) n l = (after_fits (note_at a.maps n) (found_listed a.maps n l.0), followings_fit list n l.1)
 
   module _ (many : Option ℕ) (list : List Annotation) (count : IsCount many (length list)) (listed : All (λ (a : Annotation). AreListed keys vars a.maps) list) where
     pub notes_fit : (xs : List Noted) → All (FitsNote many) (map (read (maps_in list)) xs)
@@ -144,9 +144,9 @@ module _ (keys vars : ℕ) (few_keys : keys ≤ 256) (few_vars : vars ≤ 256) w
     notes_fit (a_loop n ∷ xs) = (
       (
         maps_fit many ((maps_in list).around n) (arounds_fit list n listed) (subst (IsCount many) (sym (length-map list (λ a. around_in (note_at a.maps n)))) count),
-        maps_fit many ((maps_in list).behind n) (behinds_fit list n listed) (subst (IsCount many) (sym (length-map list (λ a. behind_in (note_at a.maps n)))) count),
+        maps_fit many ((maps_in list).following n) (followings_fit list n listed) (subst (IsCount many) (sym (length-map list (λ a. after_in (note_at a.maps n)))) count),
       ),
       notes_fit xs,
     )
     notes_fit (a_join n ∷ xs) =
-        (maps_fit many ((maps_in list).behind n) (behinds_fit list n listed) (subst (IsCount many) (sym (length-map list (λ a. behind_in (note_at a.maps n)))) count), notes_fit xs)
+        (maps_fit many ((maps_in list).following n) (followings_fit list n listed) (subst (IsCount many) (sym (length-map list (λ a. after_in (note_at a.maps n)))) count), notes_fit xs)

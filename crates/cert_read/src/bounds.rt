@@ -1,7 +1,7 @@
 //! Bound entries: which bounds are states, and how many instances a function has.
 
 ghost use Rattle.std.specs.Prelude.{◌≡◌, ◌≤◌, map, length, filter, slice_get, option_map};
-ghost use Rattle.std.specs.List.{list_all, range_with_len};
+ghost use Rattle.std.specs.List.{range_with_len};
 ghost use Rattle.vlt_base.specs.States.{has_state};
 ghost use Rattle.vlt_core.specs.View.{program_of, type_of, key_of, entry_of, mode_of};
 ghost use Rattle.vlt_core.specs.LookupViews.{bound_view};

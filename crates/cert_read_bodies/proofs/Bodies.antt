@@ -17,15 +17,15 @@ use Rattle.cert_read_bodies.proofs.Statements.{statements_are_rows}
 abbrev Like : Rest → Rest → Type 0
 Like xs ys = (deep : ℕ) → IsStuck deep ys → IsStuck deep xs
 
-behind_rows : (rs : List Row) (xs ys : Rest) → Like xs ys → Like (map Some rs ++ xs) (map Some rs ++ ys)
-behind_rows [] xs ys l = l
-behind_rows (r ∷ rs) xs ys l = λ deep is. is
+after_rows : (rs : List Row) (xs ys : Rest) → Like xs ys → Like (map Some rs ++ xs) (map Some rs ++ ys)
+after_rows [] xs ys l = l
+after_rows (r ∷ rs) xs ys l = λ deep is. is
 
 mutual
   taken_like : (deep : ℕ) (x : Draft) (xs ys : Rest) → Like xs ys → IsTaken deep x ys → IsTaken deep x xs
   taken_like deep (plain r) xs ys l t = t
   taken_like deep (choose e a b m) xs ys l t =
-      (t.0, block_like (suc deep) a _ _ (behind_rows (block_rows b) xs ys l) t.1, (λ w. block_like (suc deep) b xs ys l (t.2 w)), t.3)
+      (t.0, block_like (suc deep) a _ _ (after_rows (block_rows b) xs ys l) t.1, (λ w. block_like (suc deep) b xs ys l (t.2 w)), t.3)
   taken_like deep (loop e a m k) xs ys l t = (t.0, block_like (suc deep) a xs ys l t.1)
   taken_like deep (switch v arms m) xs ys l t = (t.0, arms_like (suc deep) arms xs ys l t.1)
   taken_like deep (focus y z a) xs ys l t = (t.0, block_like (suc deep) a xs ys l t.1)
@@ -39,12 +39,12 @@ mutual
   list_like deep (suc n) done xs ys l t = l deep t
   list_like deep zero (next f rest) xs ys l t = absurd t
   list_like deep (suc n) (next f rest) xs ys l t =
-      (taken_like deep f _ _ (behind_rows (list_rows rest) xs ys l) t.0, (λ w. list_like deep n rest xs ys l (t.1 w)), t.2)
+      (taken_like deep f _ _ (after_rows (list_rows rest) xs ys l) t.0, (λ w. list_like deep n rest xs ys l (t.1 w)), t.2)
 
   arms_like : (deep : ℕ) (arms : Arms) (xs ys : Rest) → Like xs ys → AreTakenArms deep arms ys → AreTakenArms deep arms xs
   arms_like deep no_arms xs ys l t = tt
   arms_like deep (arm c vs b rest) xs ys l t =
-      (block_like deep b _ _ (behind_rows (arms_rows rest) xs ys l) t.0, (λ w. arms_like deep rest xs ys l (t.1 w)), t.2)
+      (block_like deep b _ _ (after_rows (arms_rows rest) xs ys l) t.0, (λ w. arms_like deep rest xs ys l (t.1 w)), t.2)
 
 -- a row of no statement stops reading
 no_stmt : (deep : ℕ) (r : Row) → is_stmt r ≡ false → may_stand deep r ≡ false

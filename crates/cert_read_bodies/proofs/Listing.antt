@@ -1,4 +1,4 @@
--- The statements of a block, and the arms of a switch, that stand read, whatever comes behind them.
+-- The statements of a block, and the arms of a switch, that stand read, whatever comes after them.
 use Rattle.std.specs.Prelude.{◌≡◌, ℕ, ◌+◌, ◌-◌, ◌≤◌, ◌&&◌, Bool, true, false, List, ◌++◌, map, drop, length, Option, Some}
 use Rattle.serde_json.specs.declared.value.Value.{Value}
 use Rattle.cert_format.specs.Drafts.{Rest, arm_heads, list_rows, arms_rows, is_whole_list, are_whole_arms, AreBare, AreTaken, AreTakenArms}

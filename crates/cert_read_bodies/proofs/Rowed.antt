@@ -20,12 +20,12 @@ use Rattle.cert_read_bodies.specs.declared.read.ReadDraft.{ReadDraft}
 use Rattle.cert_read_bodies.specs.declared.read.ReadBlock.{ReadBlock}
 use Rattle.cert_read_bodies.specs.declared.read.ReadArms.{ReadArms}
 
--- rows behind others
+-- rows after others
 pub split : (xs ys : List Row) (more : Rest) → map Some (xs ++ ys) ++ more ≡ map Some xs ++ (map Some ys ++ more)
 split [] ys more = refl
 split (x ∷ xs) ys more = ap (λ z. Some x ∷ z) (split xs ys more)
 
--- a row and those behind it
+-- a row and those after it
 pub first_row : (n : Option ℕ) (rows : List Value) (at : ℕ) (r : Row) → first_at (rest_at n rows at) ≡ Some r → rest_at n rows at ≡ Some r ∷ rest_at n rows (at + 1)
 first_row n rows at r e = by (drop at rows) e ∙ ap (λ vs. Some r ∷ map (stmt_of_data n) (map view vs)) (drop-drop 1 at rows)
   where

@@ -58,7 +58,7 @@ pub record IsReadArms (n : Option ℕ) (at deep : ℕ) (rows : List Value) (x : 
   pub fault : r.wrong ≡ wrong_arms at x
   pub taken : AreTakenArms deep x (rest_at n rows r.at)
 
--- behind another block, which is there whole or not
+-- after another block, which is there whole or not
 pub record IsReadSecond (n : Option ℕ) (at deep : ℕ) (rows : List Value) (there : Bool)
     (x : Block) (r : ReadBlock) : Type 0 where
   pub made : rest_at n rows at ≡ map Some (block_rows x) ++ rest_at n rows r.at

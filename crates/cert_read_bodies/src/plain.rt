@@ -1,6 +1,6 @@
 //! Statements without blocks.
 
-ghost use Rattle.std.specs.Prelude.{◌≡◌, option_map};
+ghost use Rattle.std.specs.Prelude.{◌≡◌};
 ghost use Rattle.vlt_core.specs.View.{form_of};
 ghost use Rattle.cert_format.specs.Bodies as s;
 ghost use Rattle.cert_read_rows.specs.Statements.{plain_of};

@@ -1,13 +1,12 @@
 //! Statements of rows, as far as the rows go.
 
-ghost use Rattle.std.specs.Prelude.{◌≡◌, ◌≤◌, ◌<◌, ◌==◌, length, map, drop, option_map, IfOk, if◌then◌else◌, Some, None, false};
-ghost use Rattle.serde_json.specs.View.{view};
+ghost use Rattle.std.specs.Prelude.{◌≡◌, ◌≤◌, ◌<◌, ◌==◌, length, map, option_map, IfOk, if◌then◌else◌, Some, None, false};
 ghost use Rattle.vlt_core.specs.HeldView.{toks_of};
 ghost use Rattle.cert_format.specs.Drafts as s;
 ghost use Rattle.cert_format.specs.Endings.{unsure, both, agrees, or_else, row_ending};
 ghost use Rattle.cert_read_rows.specs.Heads.{head_of, arm_of};
 ghost use Rattle.cert_read_rows.specs.Maps.{maps_of};
-ghost use Rattle.cert_read_rows.specs.Statements.{plain_of, block_of as block_row_of, stmt_of, stmt_of_data};
+ghost use Rattle.cert_read_rows.specs.Statements.{plain_of, block_of as block_row_of, stmt_of};
 ghost use Rattle.cert_read_bodies.specs.Tree.{block_of, drafts_of, ending_of};
 ghost use Rattle.cert_read_bodies.specs.Reads.{ReadsDraft, ReadsBlock, ReadsSecond, ReadsArms, HasArmsDepth, IsPlainDraft, Stands, rest_at, first_at};
 

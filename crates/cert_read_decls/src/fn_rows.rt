@@ -1,6 +1,6 @@
 //! Rows of functions and externals.
 
-ghost use Rattle.std.specs.Prelude.{◌≡◌, ◌≤◌, ℕ, map, option_map, IfOk, IfSome, [], ◌∷◌, Some, None};
+ghost use Rattle.std.specs.Prelude.{◌≡◌, ◌≤◌, ℕ, map, option_map, IfOk, [], ◌∷◌, Some, None};
 ghost use Rattle.serde_json.specs.View.{view};
 ghost use Rattle.cert_rows.specs.Parts.{seven_in, three_of, several, few};
 ghost use Rattle.cert_rows.specs.Values as s;

@@ -1,6 +1,6 @@
 //! Lists of parts.
 
-ghost use Rattle.std.specs.Prelude.{◌≡◌, ◌≤◌, ℕ, map, option_map, IfOk, IfSome, [], ◌∷◌, Some, None};
+ghost use Rattle.std.specs.Prelude.{◌≡◌, ◌≤◌, ℕ, map, option_map, IfOk, [], ◌∷◌, Some, None};
 ghost use Rattle.serde_json.specs.View.{view};
 ghost use Rattle.vlt_core.specs.View.{ty_of, link_of, field_of, case_key_of, key_of, var_of, entry_of, header_of};
 ghost use Rattle.cert_rows.specs.Parts.{text, each_in, several, few, minus_or};

@@ -1,8 +1,8 @@
 //! Rows of declarations, and of the version.
 
-ghost use Rattle.std.specs.Prelude.{◌≡◌, ◌≤◌, ℕ, map, option_map, IfOk, IfSome, [], ◌∷◌, Some, None};
+ghost use Rattle.std.specs.Prelude.{◌≡◌, ◌≤◌, ℕ, map, option_map, IfOk, [], ◌∷◌, Some, None};
 ghost use Rattle.serde_json.specs.View.{view};
-ghost use Rattle.vlt_core.specs.View.{set_of, case_of};
+ghost use Rattle.vlt_core.specs.View.{case_of};
 ghost use Rattle.cert_rows.specs.Rows as rows;
 ghost use Rattle.cert_rows.specs.Rows.{set_fields, version_fields, abstract_fields, struct_fields, variant_fields, case_fields, fn_fields, extern_fields};
 ghost use Rattle.cert_read_decls.specs.Rows.{row_of, type_row_of_tag, decl_of_tag, decl_of_data};

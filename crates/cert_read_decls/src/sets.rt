@@ -1,8 +1,7 @@
 //! Rows of sets of states.
 
-ghost use Rattle.std.specs.Prelude.{◌≡◌, ◌≤◌, ℕ, map, option_map, IfOk, IfSome, [], ◌∷◌, Some, None};
+ghost use Rattle.std.specs.Prelude.{◌≡◌, ◌≤◌, ℕ, map, option_map, IfOk, [], ◌∷◌, Some, None};
 ghost use Rattle.serde_json.specs.View.{view};
-ghost use Rattle.std.specs.Prelude.{length};
 ghost use Rattle.vlt_core.specs.View.{set_of};
 ghost use Rattle.cert_rows.specs.Rows.{names, has_own_links, plain_set_fields, linked_set_fields, set_fields};
 ghost use Rattle.cert_read_decls.specs.Rows.{names_of, are_own, set_parts};

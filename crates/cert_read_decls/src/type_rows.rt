@@ -1,6 +1,6 @@
 //! Rows of types and of cases.
 
-ghost use Rattle.std.specs.Prelude.{◌≡◌, ◌≤◌, ℕ, map, option_map, IfOk, IfSome, [], ◌∷◌, Some, None};
+ghost use Rattle.std.specs.Prelude.{◌≡◌, ◌≤◌, ℕ, map, option_map, IfOk, [], ◌∷◌, Some, None};
 ghost use Rattle.serde_json.specs.View.{view};
 ghost use Rattle.cert_rows.specs.Parts.{minus_or, five_in};
 ghost use Rattle.cert_rows.specs.Values as s;

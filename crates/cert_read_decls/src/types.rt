@@ -1,11 +1,10 @@
 //! Types.
 
-ghost use Rattle.std.specs.Prelude.{◌≡◌, ◌≤◌, ℕ, map, option_map, IfOk, IfSome, [], ◌∷◌, Some, None};
+ghost use Rattle.std.specs.Prelude.{◌≡◌, ◌≤◌, ℕ, map, option_map, IfOk, [], ◌∷◌, Some, None};
 ghost use Rattle.serde_json.specs.View.{view};
 ghost use Rattle.vlt_core.specs.Core as core;
 ghost use Rattle.vlt_core.specs.View.{ty_of};
-ghost use Rattle.cert_rows.specs.Parts.{two_in, three_in};
-ghost use Rattle.cert_rows.specs.Values.{key_fields, own_fields, var_fields, by_tag, if_empty, ty_of_tag, ty};
+ghost use Rattle.cert_rows.specs.Values.{key_fields, own_fields, var_fields, if_empty, ty_of_tag, ty};
 ghost use Rattle.cert_rows.specs.Rows.{result_of_tag};
 ghost use Rattle.cert_read_decls.specs.Rows.{last_ty_of_tag};
 ghost use Rattle.cert_rows.specs.Rows as rows;

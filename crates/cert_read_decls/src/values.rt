@@ -1,13 +1,12 @@
 //! Parts of declarations.
 
-ghost use Rattle.std.specs.Prelude.{◌≡◌, ◌≤◌, ℕ, map, option_map, IfOk, IfSome, [], ◌∷◌, Some, None};
+ghost use Rattle.std.specs.Prelude.{◌≡◌, ◌≤◌, ℕ, option_map, IfOk, [], ◌∷◌, Some, None};
 ghost use Rattle.serde_json.specs.View.{view};
 ghost use Rattle.std.specs.Prelude.{if◌then◌else◌, ◌==◌, true};
-ghost use Rattle.vlt_base.specs.States.{has_state};
-ghost use Rattle.vlt_core.specs.View.{ty_of, link_of, field_of, case_key_of, key_of, var_of, entry_of, mode_of, states_of, header_of};
-ghost use Rattle.cert_rows.specs.Parts.{two_in, three_in, four_in, minus_or};
+ghost use Rattle.vlt_core.specs.View.{link_of, field_of, case_key_of, key_of, var_of, entry_of, mode_of, states_of};
+ghost use Rattle.cert_rows.specs.Parts.{minus_or};
 ghost use Rattle.cert_rows.specs.Values as s;
-ghost use Rattle.cert_rows.specs.Values.{id, is_zero_side, is_unsaid, are_alike, is_bound_side, is_entry, side_states, mode_of_number, bound_number, last_mode};
+ghost use Rattle.cert_rows.specs.Values.{id, is_zero_side, are_alike, is_bound_side, is_entry, side_states, mode_of_number, bound_number, last_mode};
 ghost use Rattle.cert_rows.specs.Rows as rows;
 
 use crate::names::name;

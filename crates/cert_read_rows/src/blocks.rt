@@ -4,7 +4,6 @@ ghost use Rattle.std.specs.Prelude.{◌≡◌, map, option_map, IfOk, [], ◌∷
 ghost use Rattle.serde_json.specs.View.{view};
 ghost use Rattle.vlt_core.specs.View.{expr_of};
 ghost use Rattle.cert_rows.specs.Expressions as s;
-ghost use Rattle.cert_rows.specs.Parts.{one_in, three_in, four_in};
 ghost use Rattle.cert_rows.specs.Rows.{choose, loop, switch, focus, scope, if_stmt, while_stmt, switch_stmt, focus_stmt, scope_stmt};
 ghost use Rattle.cert_read_rows.specs.Statements.{block_of, block_of_tag};
 

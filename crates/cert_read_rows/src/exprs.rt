@@ -2,10 +2,9 @@
 
 ghost use Rattle.std.specs.Prelude.{◌≡◌, ◌≤◌, ◌==◌, pos, map, option_map, IfSome, IfOk, [], ◌∷◌, Some, None};
 ghost use Rattle.serde_json.specs.View.{view};
-ghost use Rattle.vlt_ops.specs.Operator.{row_of};
 ghost use Rattle.vlt_core.specs.Core as core;
 ghost use Rattle.vlt_core.specs.View.{expr_of};
-ghost use Rattle.cert_rows.specs.Parts.{single, pair, one_in, two_in};
+ghost use Rattle.cert_rows.specs.Parts.{single, pair};
 ghost use Rattle.cert_rows.specs.Values.{id, flag};
 ghost use Rattle.cert_rows.specs.Expressions as s;
 ghost use Rattle.cert_rows.specs.Expressions.{depth, all_ops, op_at, number_fields};

@@ -2,7 +2,7 @@
 
 ghost use Rattle.std.specs.Prelude.{◌≡◌, map, option_map, IfOk, [], ◌∷◌, Some, None};
 ghost use Rattle.serde_json.specs.View.{view};
-ghost use Rattle.cert_rows.specs.Parts.{two_in, four_in, each_in, several};
+ghost use Rattle.cert_rows.specs.Parts.{each_in, several};
 ghost use Rattle.cert_rows.specs.Rows as s;
 ghost use Rattle.cert_read_rows.specs.Heads.{head_of, arm_of};
 

@@ -1,9 +1,9 @@
 //! Maps: tokens with their statuses, in ascending order.
 
-ghost use Rattle.std.specs.Prelude.{◌≡◌, ◌≤◌, ◌==◌, if◌then◌else◌, length, map, option_map, IfOk, [], ◌∷◌, Some, None};
+ghost use Rattle.std.specs.Prelude.{◌≡◌, ◌≤◌, ◌==◌, if◌then◌else◌, map, option_map, IfOk, [], ◌∷◌, Some, None};
 ghost use Rattle.serde_json.specs.View.{view};
 ghost use Rattle.vlt_core.specs.HeldView.{status_of};
-ghost use Rattle.cert_rows.specs.Parts.{three_in, each_in, several, zero_or};
+ghost use Rattle.cert_rows.specs.Parts.{each_in, zero_or};
 ghost use Rattle.cert_rows.specs.Values as s;
 ghost use Rattle.vlt_core.specs.View.{tok_of};
 ghost use Rattle.cert_rows.specs.Values.{number_of_tok, ascends, map_part, maps_part, token_status, is_status, status_of as kind_status};

@@ -3,8 +3,8 @@
 ghost use Rattle.std.specs.Prelude.{◌≡◌, map, option_map, IfOk, [], Some, None};
 ghost use Rattle.serde_json.specs.View.{view};
 ghost use Rattle.vlt_core.specs.Core as core;
-ghost use Rattle.vlt_core.specs.View.{expr_of, operand_of};
-ghost use Rattle.cert_rows.specs.Parts.{one_in, two_in, each_in, single, pair, several, zero_or};
+ghost use Rattle.vlt_core.specs.View.{operand_of};
+ghost use Rattle.cert_rows.specs.Parts.{each_in, single, pair, several, zero_or};
 ghost use Rattle.cert_rows.specs.Values.{id, mask};
 ghost use Rattle.cert_rows.specs.Expressions as s;
 ghost use Rattle.cert_rows.specs.Expressions.{operand_of_tag};

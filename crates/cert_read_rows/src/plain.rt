@@ -3,7 +3,6 @@
 ghost use Rattle.std.specs.Prelude.{◌≡◌, map, option_map, IfOk, [], ◌∷◌, Some, None};
 ghost use Rattle.serde_json.specs.View.{view};
 ghost use Rattle.vlt_core.specs.Core as core;
-ghost use Rattle.cert_rows.specs.Parts.{one_in, two_in, three_in, four_in};
 ghost use Rattle.cert_rows.specs.Rows.{simple, call, return, jump, set_stmt, input_stmt, print_stmt, put_stmt, new_stmt, become_stmt, release_stmt, drop_stmt, own_stmt, unpack_stmt, build_stmt, call_stmt, swap_stmt, open_stmt, adopt_stmt, return_stmt, jump_stmt};
 ghost use Rattle.cert_read_rows.specs.Statements.{plain_of, way_of_tag, owner_of_tag, value_of_tag, object_of_tag, plain_of_tag};
 

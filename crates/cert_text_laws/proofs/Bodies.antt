@@ -12,7 +12,7 @@ use Rattle.vlt_core.specs.View.{stmts_made, arms_made}
 use Rattle.vlt_kinds_types.specs.declared.names.found.Refusal.{Refusal}
 use Rattle.vlt_kinds_types.specs.Names.Refusals.{least_from}
 use Rattle.vlt_kinds.specs.Kinds.{Kinds}
-use Rattle.vlt_resolve_exprs.specs.Scopes.{Scope, var_ty, scope_inside, scope_behind}
+use Rattle.vlt_resolve_exprs.specs.Scopes.{Scope, var_ty, scope_inside, scope_after}
 use Rattle.vlt_resolve_exprs.specs.Exprs.{wanted_refused, core_expr, var_number}
 use Rattle.vlt_resolve_stmts.specs.Around.{Around, inside_loop, inside_focus}
 use Rattle.vlt_resolve_stmts.specs.Statements.{simple_refused, simple_became}
@@ -151,7 +151,7 @@ module _ (kinds : Kinds) where
         let u = unless_ok (least_from found (focus_refused kinds inside ty y k z)) _ r e in
         let a = then_ok (walk_stmts kinds (inside_focus around) (bound_scope inside ty k z) false ss) _ r u.1 in
         let q = stmts_limited (inside_focus around) (bound_scope inside ty k z) (suc deep) (room - 1) false ss a.first (deeper deep room n g.0) g.1 w.1 a.one in
-        subst (λ z. AreForms deep z.0) (same_ok (core.focus (var_number scope y) (length scope.vars) (block_made a.first (close.to - 1)) ∷ [], scope_behind scope a.first.1) r a.rest)
+        subst (λ z. AreForms deep z.0) (same_ok (core.focus (var_number scope y) (length scope.vars) (block_made a.first (close.to - 1)) ∷ [], scope_after scope a.first.1) r a.rest)
         (one_form deep (core.focus (var_number scope y) (length scope.vars) (block_made a.first (close.to - 1))) (allowed deep room n g.0, (few_made (count_of ss) a.first.0 w.0 q.few, q.limited)))
 
     block_limited : (around : Around) (scope : Scope) (deep room : ℕ) (b : Block) (r : core.Block × Scope) → Fills deep room → IsBlock language room b → BlockIsFew most b
@@ -159,7 +159,7 @@ module _ (kinds : Kinds) where
     block_limited around scope deep room (s.braced ss at) r n g w e =
         let a = then_ok (walk_stmts kinds around (scope_inside scope) false ss) _ r e in
         let q = stmts_limited around (scope_inside scope) (suc deep) (room - 1) false ss a.first (deeper deep room n g.0) g.1 w.1 a.one in
-        subst (λ z. IsLimitedBlock (suc deep) z.0) (same_ok (block_made a.first (at.to - 1), scope_behind scope a.first.1) r a.rest)
+        subst (λ z. IsLimitedBlock (suc deep) z.0) (same_ok (block_made a.first (at.to - 1), scope_after scope a.first.1) r a.rest)
         (few_made (count_of ss) a.first.0 w.0 q.few, q.limited)
 
     else_limited : (around : Around) (scope : Scope) (deep room end : ℕ) (o : Else) (r : core.Block × Scope) → Fills deep room → IsElse language room o → ElseIsFew most o
@@ -199,7 +199,7 @@ module _ (kinds : Kinds) where
         let u = unless_ok (least_from None (arm_refused kinds (scope_inside scope) c tick vs)) _ a.first a.one in
         let y = then_ok (walk_stmts kinds around (arm_scope (scope_inside scope) c vs) false ss) _ a.first u.1 in
         let q = stmts_limited around (arm_scope (scope_inside scope) c vs) (suc deep) (room - 1) false ss y.first (deeper deep room n g.0.0) g.0.1 w.0.1 y.one in
-        let here : IsLimitedBlock (suc deep) a.first.0.2 = subst (λ z. IsLimitedBlock (suc deep) z.0.2) (same_ok ((case_number c, arm_numbers (scope_inside scope) c vs, block_made y.first (close.to - 1)), scope_behind scope y.first.1) a.first y.rest)
+        let here : IsLimitedBlock (suc deep) a.first.0.2 = subst (λ z. IsLimitedBlock (suc deep) z.0.2) (same_ok ((case_number c, arm_numbers (scope_inside scope) c vs, block_made y.first (close.to - 1)), scope_after scope y.first.1) a.first y.rest)
         (few_made (count_of ss) y.first.0 w.0.0 q.few, q.limited) in
         let more = arms_limited around a.first.1 deep room ty rest d.first n g.1 w.1 d.one in
         subst (λ z. AreLimitedArms (suc deep) (arms_made z.0)) (same_ok (a.first.0 ∷ d.first.0, d.first.1) r d.rest) (here, more)

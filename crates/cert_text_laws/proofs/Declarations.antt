@@ -12,7 +12,7 @@ use Rattle.vlt_syntax.specs.Tree.{Name, SetState, HeaderKey, Case, Decl}
 use Rattle.vlt_syntax.specs.Lists.{Each, IsFilled}
 use Rattle.vlt_syntax.specs.Grammar.{AtMost, BeginsChain, IsCase, IsDecl, language}
 use Rattle.vlt_kinds_types.specs.Names.Refusals.{of_each}
-use Rattle.vlt_kinds_types.specs.Files.{File, header_in, shape_named, state_names, sets_in, state_number, state_texts, number_of, links_to, links_behind, links_of}
+use Rattle.vlt_kinds_types.specs.Files.{File, header_in, shape_named, state_names, sets_in, state_number, state_texts, number_of, links_to, links_after, links_of}
 use Rattle.vlt_kinds_types.proofs.Sets.{some_texts, few_texts}
 use Rattle.vlt_kinds_decls.specs.Made.{type_wanted, core_header, core_field, core_struct, core_case, core_variant, core_types_in, header_number}
 use Rattle.vlt_kinds_types.specs.Types.{core_ty}
@@ -68,20 +68,20 @@ below_test m n less = grind (arith, nat_tests)
 abbrev are_own : (count : ℕ) → List Link → Bool
 are_own n ls = list_all (λ l. nat_lt l.lower n && nat_lt l.upper n) ls
 
-links_own : (known : List (List ℕ)) (lower : ℕ) (xs : List SetState) → 1 ≤ length known → lower < length known → are_own (length known) (links_behind known lower xs) ≡ true
+links_own : (known : List (List ℕ)) (lower : ℕ) (xs : List SetState) → 1 ≤ length known → lower < length known → are_own (length known) (links_after known lower xs) ≡ true
 links_own known lower [] some less = refl
 links_own known lower (x ∷ xs) some less = by x.above (links_own known (number_of known x.name) xs some (number_below known x.name some))
   where
     upper : ℕ
     upper = number_of known x.name
 
-    by : (b : Bool) → are_own (length known) (links_behind known upper xs) ≡ true → are_own (length known) (links_to lower upper b ++ links_behind known upper xs) ≡ true
+    by : (b : Bool) → are_own (length known) (links_after known upper xs) ≡ true → are_own (length known) (links_to lower upper b ++ links_after known upper xs) ≡ true
     by false more = more
-    by true more = and_from (nat_lt lower (length known) && nat_lt upper (length known)) (are_own (length known) (links_behind known upper xs))
+    by true more = and_from (nat_lt lower (length known) && nat_lt upper (length known)) (are_own (length known) (links_after known upper xs))
         (and_from (nat_lt lower (length known)) (nat_lt upper (length known)) (below_test lower (length known) less) (below_test upper (length known) (number_below known x.name some))) more
 
 -- as many as the states that stand above another
-links_few : (known : List (List ℕ)) (lower : ℕ) (xs : List SetState) → length (links_behind known lower xs) ≤ length xs
+links_few : (known : List (List ℕ)) (lower : ℕ) (xs : List SetState) → length (links_after known lower xs) ≤ length xs
 links_few known lower [] = omega arith
 links_few known lower (x ∷ xs) = by x.above (links_few known (number_of known x.name) xs)
   where
@@ -94,9 +94,9 @@ links_few known lower (x ∷ xs) = by x.above (links_few known (number_of known 
     both : (n m : ℕ) → n ≤ m → suc n ≤ suc m
     both n m le = omega (arith, le)
 
-    by : (b : Bool) → length (links_behind known upper xs) ≤ length xs → length (links_to lower upper b ++ links_behind known upper xs) ≤ suc (length xs)
-    by false more = up (length (links_behind known upper xs)) (length xs) more
-    by true more = both (length (links_behind known upper xs)) (length xs) more
+    by : (b : Bool) → length (links_after known upper xs) ≤ length xs → length (links_to lower upper b ++ links_after known upper xs) ≤ suc (length xs)
+    by false more = up (length (links_after known upper xs)) (length xs) more
+    by true more = both (length (links_after known upper xs)) (length xs) more
 
 set_limited : (name : List ℕ) (ss : List SetState) → IsFilled ss → AtMost 32 ss → BeginsChain ss → IsLimitedSet (record { name = name; states = state_texts ss; links = links_of ss })
 set_limited name [] is few begins = absurd is
@@ -105,7 +105,7 @@ set_limited name (x ∷ xs) is few begins =
     record {
       filled = filled_by (state_texts (x ∷ xs)) some;
       few = few_texts (x ∷ xs) 32 few;
-      few_links = subst (λ b. length (links_to 0 upper b ++ links_behind known upper xs) ≤ 31) (sym begins) (less (length (links_behind known upper xs)) (length xs) (links_few known upper xs) few);
+      few_links = subst (λ b. length (links_to 0 upper b ++ links_after known upper xs) ≤ 31) (sym begins) (less (length (links_after known upper xs)) (length xs) (links_few known upper xs) few);
       own_links = links_own known 0 (x ∷ xs) some (first (length known) some);
     }
   where

@@ -28,8 +28,8 @@ use Rattle.cert_text_laws.proofs.Loads.{Fits, nothing, wider, closed, counted, f
 
 -- ---- the weight of what is spelled by the tokens before so many of all: two more at most
 
-record Near (n behind all : ℕ) : Type 0 where
-  enough : n + behind ≤ all + 2
+record Near (n following all : ℕ) : Type 0 where
+  enough : n + following ≤ all + 2
 
 no_form : {a b : ℕ} → a ≤ b → Near 0 a b
 no_form x = record { enough = omega (arith, x) }
@@ -63,8 +63,8 @@ in_all : {n a b : ℕ} → Fits n a b → Fits (1 + n) a (suc b)
 in_all x = let h = x.enough in record { enough = omega (arith, h) }
 
 -- three for each token
-pub record Bounds (total behind all : ℕ) : Type 0 where
-  pub enough : total + 3 * behind ≤ 3 * all
+pub record Bounds (total following all : ℕ) : Type 0 where
+  pub enough : total + 3 * following ≤ 3 * all
 
 ended : {n a b : ℕ} → Near n (suc a) b → suc a ≤ b → Bounds n a b
 ended x y = let h = x.enough in record { enough = omega (arith, h, y) }

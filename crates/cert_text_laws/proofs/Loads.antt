@@ -19,8 +19,8 @@ use Rattle.cert_text_laws.proofs.Shorter.{over, one, more, same, after_further, 
 
 -- ---- so much is spelled by the tokens before so many of all
 
-pub record Fits (n behind all : ℕ) : Type 0 where
-  pub enough : n + behind ≤ all
+pub record Fits (n following all : ℕ) : Type 0 where
+  pub enough : n + following ≤ all
 
 pub nothing : {a b : ℕ} → a ≤ b → Fits 0 a b
 nothing x = record { enough = omega (arith, x) }
@@ -31,7 +31,7 @@ single x = record { enough = omega (arith, x) }
 pub wider : {n a b : ℕ} → Fits n a b → Fits n a (suc b)
 wider x = let h = x.enough in record { enough = omega (arith, h) }
 
--- with a token behind it
+-- with a token after it
 pub closed : {n a b : ℕ} → Fits n (suc a) b → Fits n a b
 closed x = let h = x.enough in record { enough = omega (arith, h) }
 

@@ -37,8 +37,8 @@ abbrev mutual
 
 -- ---- so many statements, before so many tokens, are spelled by so many of all
 
-record Bounds (total behind all : ℕ) : Type 0 where
-  enough : total + 2 * behind ≤ 2 * all
+record Bounds (total following all : ℕ) : Type 0 where
+  enough : total + 2 * following ≤ 2 * all
 
 none : (a : ℕ) → Bounds 0 a a
 none a = record { enough = omega arith }
@@ -106,7 +106,7 @@ mutual
       longer (both (fewer (bound_block b _)) (bound_arms others rest))
       (more (more (over (more (same _)) (after_enclosed name_then after_name _ _ vs _))))
 
--- a block that is spelled by so many tokens, with others behind them, has twice as many statements at most
+-- a block that is spelled by so many tokens, with others after them, has twice as many statements at most
 pub few_in_all : (b : Block) (rest : List Token) (most : ℕ) → length (block_then b rest) ≤ most → total_block b ≤ 2 * most
 few_in_all b rest most h = last (total_block b) (length rest) (length (block_then b rest)) (bound_block b rest).enough h
   where

@@ -10,7 +10,7 @@ use Rattle.vlt_core.specs.View.{stmts_made, arms_made}
 use Rattle.vlt_kinds_types.specs.declared.names.found.Refusal.{Refusal}
 use Rattle.vlt_kinds_types.specs.Names.Refusals.{least_from}
 use Rattle.vlt_kinds.specs.Kinds.{Kinds}
-use Rattle.vlt_resolve_exprs.specs.Scopes.{Scope, var_ty, scope_inside, scope_behind}
+use Rattle.vlt_resolve_exprs.specs.Scopes.{Scope, var_ty, scope_inside, scope_after}
 use Rattle.vlt_resolve_exprs.specs.Exprs.{wanted_refused, core_expr, var_number}
 use Rattle.vlt_resolve_calls.specs.Builds.{Case}
 use Rattle.vlt_resolve_stmts.specs.Around.{Around, inside_loop, inside_focus}
@@ -62,18 +62,18 @@ alone x = let h = x.enough in record { enough = omega (arith, h) }
 two_parts : (w m n : ℕ) {a b c : ℕ} → w ≡ m + n → Bounds m b c → Bounds n a b → Bounds w a c
 two_parts w m n e x y = let h = x.enough in let k = y.enough in record { enough = omega (arith, e, h, k) }
 
--- a condition, and a block or two behind it
+-- a condition, and a block or two after it
 looped : {r n a b c : ℕ} → Fits r b c → Bounds (suc n) a b → Bounds ((1 + (r + n)) + 0) a c
 looped x y = let h = x.enough in let k = y.enough in record { enough = omega (arith, h, k) }
 
 chosen : {r m n a b c d : ℕ} → Fits r c d → Bounds (suc m) b c → Bounds n a b → Bounds ((1 + (r + (m + n))) + 0) a d
 chosen x y z = let h = x.enough in let k = y.enough in let l = z.enough in record { enough = omega (arith, h, k, l) }
 
--- an arm: its variables, a colon, its block and those behind it
+-- an arm: its variables, a colon, its block and those after it
 with_arm : {v m n a b c d : ℕ} → Fits v (suc c) d → Bounds (suc m) b c → Bounds n a b → Bounds (1 + (v + (m + n))) a d
 with_arm x y z = let h = x.enough in let k = y.enough in let l = z.enough in record { enough = omega (arith, h, k, l) }
 
--- the forms of a statement, and those of the others behind it
+-- the forms of a statement, and those of the others after it
 all_light : (at : ℕ) (fs : List Form) (ys : List (ℕ × Form)) {a b c : ℕ} → Bounds (weigh fs) b c → Bounds (weight_list (stmts_made ys)) a b
     → Bounds (weight_list (stmts_made (placed_at at fs ++ ys))) a c
 all_light at fs ys x y = two_parts _ (weigh fs) (weight_list (stmts_made ys)) (sum _ _ (weigh fs) _ (joined_weight (placed_at at fs) ys) (placed_weight at fs)) x y
@@ -148,14 +148,14 @@ module _ (kinds : Kinds) where
         let ty = var_ty scope y.text in
         let u = unless_ok (least_from found (focus_refused kinds inside ty y k z)) _ r e in
         let a = then_ok (walk_stmts kinds (inside_focus around) (bound_scope inside ty k z) false ss) _ r u.1 in
-        subst (λ w. Bounds (weigh w.0) (length rest) (length (stmt_then (s.focus y k z (s.braced ss close) at) rest))) (same_ok (core.focus (var_number scope y) (length scope.vars) (block_made a.first (close.to - 1)) ∷ [], scope_behind scope a.first.1) r a.rest)
+        subst (λ w. Bounds (weigh w.0) (length rest) (length (stmt_then (s.focus y k z (s.braced ss close) at) rest))) (same_ok (core.focus (var_number scope y) (length scope.vars) (block_made a.first (close.to - 1)) ∷ [], scope_after scope a.first.1) r a.rest)
         (alone (longer (longer (longer (longer (longer (longer (longer (longer (braces (stmts_light (inside_focus around) (bound_scope inside ty k z) false ss a.first a.one _)))))))))))
 
     block_light : (around : Around) (scope : Scope) (b : Block) (r : core.Block × Scope)
         → walk_block kinds around scope b ≡ Ok r → (rest : List Token) → Bounds (suc (weight_block r.0)) (length rest) (length (block_then b rest))
     block_light around scope (s.braced ss at) r e rest =
         let a = then_ok (walk_stmts kinds around (scope_inside scope) false ss) _ r e in
-        subst (λ z. Bounds (suc (weight_block z.0)) (length rest) (length (block_then (s.braced ss at) rest))) (same_ok (block_made a.first (at.to - 1), scope_behind scope a.first.1) r a.rest)
+        subst (λ z. Bounds (suc (weight_block z.0)) (length rest) (length (block_then (s.braced ss at) rest))) (same_ok (block_made a.first (at.to - 1), scope_after scope a.first.1) r a.rest)
         (braces (stmts_light around (scope_inside scope) false ss a.first a.one _))
 
     else_light : (around : Around) (scope : Scope) (end : ℕ) (o : Else) (r : core.Block × Scope)
@@ -180,7 +180,7 @@ module _ (kinds : Kinds) where
         let y = then_ok (walk_stmts kinds around (arm_scope (scope_inside scope) c vs) false ss) _ a.first u.1 in
         let more = arms_light around a.first.1 ty others d.first d.one rest in
         let one_arm = subst (λ z. Bounds (weight_arms (arms_made (z.0 ∷ d.first.0))) (length rest) (length (arms_then (s.arm tick vs (s.braced ss close) at others) rest)))
-        (same_ok ((case_number c, arm_numbers (scope_inside scope) c vs, block_made y.first (close.to - 1)), scope_behind scope y.first.1) a.first y.rest)
+        (same_ok ((case_number c, arm_numbers (scope_inside scope) c vs, block_made y.first (close.to - 1)), scope_after scope y.first.1) a.first y.rest)
         (longer (longer (with_arm (less (names_enclosed _ _ vs _) (arm_few (scope_inside scope) c vs)) (braces (stmts_light around (arm_scope (scope_inside scope) c vs) false ss y.first y.one _)) more))) in
         subst (λ z. Bounds (weight_arms (arms_made z.0)) (length rest) (length (arms_then (s.arm tick vs (s.braced ss close) at others) rest))) (same_ok (a.first.0 ∷ d.first.0, d.first.1) r d.rest) one_arm
 

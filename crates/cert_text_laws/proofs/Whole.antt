@@ -8,7 +8,7 @@ use Rattle.vlt_core.specs.View.{stmts_made, arms_made}
 use Rattle.vlt_kinds_types.specs.declared.names.found.Refusal.{Refusal}
 use Rattle.vlt_kinds_types.specs.Names.Refusals.{least_from}
 use Rattle.vlt_kinds.specs.Kinds.{Kinds}
-use Rattle.vlt_resolve_exprs.specs.Scopes.{Scope, var_ty, scope_inside, scope_behind}
+use Rattle.vlt_resolve_exprs.specs.Scopes.{Scope, var_ty, scope_inside, scope_after}
 use Rattle.vlt_resolve_exprs.specs.Exprs.{wanted_refused, core_expr, var_number}
 use Rattle.vlt_resolve_stmts.specs.Around.{Around, inside_loop, inside_focus}
 use Rattle.vlt_resolve_stmts.specs.Statements.{simple_refused, simple_became}
@@ -43,7 +43,7 @@ joined_count (x ∷ xs) ys = ends_with (count x.1) _ (count_list (stmts_made xs)
     ends_with : (a b c d : ℕ) → b ≡ c + d → a + b ≡ (a + c) + d
     ends_with a b c d e = omega (arith, e)
 
--- the forms of a statement, and behind them the rest
+-- the forms of a statement, and after them the rest
 all_few : (m n at : ℕ) (fs : List Form) (ys : List (ℕ × Form)) → count_forms fs ≤ m → count_list (stmts_made ys) ≤ n → count_list (stmts_made (placed_at at fs ++ ys)) ≤ m + n
 all_few m n at fs ys x y = sum _ _ (count_forms fs) (count_list (stmts_made ys)) (joined_count (placed_at at fs) ys) (placed_count at fs) x y
   where
@@ -148,14 +148,14 @@ module _ (kinds : Kinds) where
         let ty = var_ty scope y.text in
         let u = unless_ok (least_from found (focus_refused kinds inside ty y k z)) _ r e in
         let a = then_ok (walk_stmts kinds (inside_focus around) (bound_scope inside ty k z) false ss) _ r u.1 in
-        subst (λ z. count_forms z.0 ≤ suc (total_stmts ss)) (same_ok (core.focus (var_number scope y) (length scope.vars) (block_made a.first (close.to - 1)) ∷ [], scope_behind scope a.first.1) r a.rest)
+        subst (λ z. count_forms z.0 ≤ suc (total_stmts ss)) (same_ok (core.focus (var_number scope y) (length scope.vars) (block_made a.first (close.to - 1)) ∷ [], scope_after scope a.first.1) r a.rest)
         (one_inside (count_list (stmts_made a.first.0)) (total_stmts ss) (stmts_few (inside_focus around) (bound_scope inside ty k z) false ss a.first a.one))
 
     block_few : (around : Around) (scope : Scope) (b : Block) (r : core.Block × Scope)
         → walk_block kinds around scope b ≡ Ok r → count_block r.0 ≤ total_block b
     block_few around scope (s.braced ss at) r e =
         let a = then_ok (walk_stmts kinds around (scope_inside scope) false ss) _ r e in
-        subst (λ z. count_block z.0 ≤ total_stmts ss) (same_ok (block_made a.first (at.to - 1), scope_behind scope a.first.1) r a.rest)
+        subst (λ z. count_block z.0 ≤ total_stmts ss) (same_ok (block_made a.first (at.to - 1), scope_after scope a.first.1) r a.rest)
         (stmts_few around (scope_inside scope) false ss a.first a.one)
 
     else_few : (around : Around) (scope : Scope) (end : ℕ) (o : Else) (r : core.Block × Scope)
@@ -180,7 +180,7 @@ module _ (kinds : Kinds) where
         let u = unless_ok (least_from None (arm_refused kinds (scope_inside scope) c tick vs)) _ a.first a.one in
         let y = then_ok (walk_stmts kinds around (arm_scope (scope_inside scope) c vs) false ss) _ a.first u.1 in
         let q = stmts_few around (arm_scope (scope_inside scope) c vs) false ss y.first y.one in
-        let here : count_block a.first.0.2 ≤ total_stmts ss = subst (λ z. count_block z.0.2 ≤ total_stmts ss) (same_ok ((case_number c, arm_numbers (scope_inside scope) c vs, block_made y.first (close.to - 1)), scope_behind scope y.first.1) a.first y.rest) q in
+        let here : count_block a.first.0.2 ≤ total_stmts ss = subst (λ z. count_block z.0.2 ≤ total_stmts ss) (same_ok ((case_number c, arm_numbers (scope_inside scope) c vs, block_made y.first (close.to - 1)), scope_after scope y.first.1) a.first y.rest) q in
         let more = arms_few around a.first.1 ty rest d.first d.one in
         subst (λ z. count_arms (arms_made z.0) ≤ total_stmts ss + total_arms rest) (same_ok (a.first.0 ∷ d.first.0, d.first.1) r d.rest)
         (two_parts (count_block a.first.0.2) (count_arms (arms_made d.first.0)) (total_stmts ss) (total_arms rest) here more)

@@ -1,4 +1,4 @@
--- The tokens that values of JSON leave behind those before them. Of what a certificate doesn't have
+-- The tokens that values of JSON leave after those before them. Of what a certificate doesn't have
 -- the token is `bad`, which no writer has: objects, floats, and integers of more than 64 bits.
 use Rattle.std.specs.Prelude.{ℕ, pos, negsuc, nat_lt, if◌then◌else◌, List, [], ◌∷◌, ◌++◌, codes, decimal}
 use Rattle.std.specs.Fmt.{signed_decimal}

@@ -11,7 +11,7 @@ use json::Writer;
 use std::alloc::{AllocError, Global};
 use std::marker::Model;
 
-/// The text of a certificate from its mark on. It is seen as the tokens behind the mark.
+/// The text of a certificate from its mark on. It is seen as the tokens after the mark.
 #[derive(Drop)]
 pub struct CertText {
     out: Writer,

@@ -51,9 +51,9 @@ accepted_tree p is accepted = record {
 
 -- ---- certificates
 
-behind : (xs ys : List ℕ) → drop (length xs) (xs ++ ys) ≡ ys
-behind [] ys = refl
-behind (x ∷ xs) ys = behind xs ys
+following : (xs ys : List ℕ) → drop (length xs) (xs ++ ys) ≡ ys
+following [] ys = refl
+following (x ∷ xs) ys = following xs ys
 
 module _ (p : Program) (all : List (List Note)) (fit : least.IsCertified p all) where
   abbrev q : Program
@@ -72,7 +72,7 @@ module _ (p : Program) (all : List (List Note)) (fit : least.IsCertified p all) 
 
   certificate : CertificatesAreWritten → IsWrittenText (compact_text (list (program_data (is_ordered q) q all))) (list (program_data (is_ordered q) q all)) → IsCertificateOf (drop (length front) file) q all
   certificate written text =
-      subst (λ t. IsCertificateOf t q all) (sym (behind front (certificate_of p all))) ((written (is_ordered q) q all fit.fits).certificate (compact_text (list (program_data (is_ordered q) q all))) text)
+      subst (λ t. IsCertificateOf t q all) (sym (following front (certificate_of p all))) ((written (is_ordered q) q all fit.fits).certificate (compact_text (list (program_data (is_ordered q) q all))) text)
 
 pub emitted : CertificatesAreWritten → (p : Program) (all : List (List Note)) → least.IsCertified p all →
     (let q = unplaced_program p in IsWrittenText (compact_text (list (program_data (is_ordered q) q all))) (list (program_data (is_ordered q) q all))) →

@@ -12,7 +12,7 @@ use Rattle.vlt_kinds_types.specs.declared.names.found.Refusal.{Refusal}
 use Rattle.vlt_kinds_types.specs.Names.Refusals.{least_from}
 use Rattle.vlt_kinds.specs.Kinds.{Kinds, head_named, function_named}
 use Rattle.vlt_resolve_exprs.specs.Types.{then_with, ty_under}
-use Rattle.vlt_resolve_exprs.specs.Scopes.{Scope, ty_in, var_named, var_ty, scope_inside, scope_behind}
+use Rattle.vlt_resolve_exprs.specs.Scopes.{Scope, ty_in, var_named, var_ty, scope_inside, scope_after}
 use Rattle.vlt_resolve_exprs.specs.Exprs.{wanted_refused, type_of, core_expr, var_number, number_of, fields_of}
 use Rattle.vlt_resolve_exprs.specs.Operands.{object_operand, operand_for, core_operand, core_operands, variable_in}
 use Rattle.vlt_resolve_calls.specs.Targets.{Target, value_form, core_value}
@@ -369,14 +369,14 @@ module _ (P : States → Type 0) (fits : (states : States) → P states → mask
           let ty = var_ty scope y.text in
           let u = unless_ok (least_from found (focus_refused kinds inside ty y k z)) _ r e in
           let a = then_ok (walk_stmts kinds (inside_focus around) (bound_scope inside ty k z) false ss) _ r u.1 in
-          let same = same_ok (core.focus (var_number scope y) (length scope.vars) (block_made a.first (close.to - 1)) ∷ [], scope_behind scope a.first.1) r a.rest in
+          let same = same_ok (core.focus (var_number scope y) (length scope.vars) (block_made a.first (close.to - 1)) ∷ [], scope_after scope a.first.1) r a.rest in
           subst (λ (z : List Form × Scope). All IsMasked z.0) same
           (stmts_masked (inside_focus around) (bound_scope inside ty k z) false ss a.first result (subst (λ (z : List Form × Scope). Holds z.1) (sym same) h) a.one, tt)
 
       block_masked : (around : Around) (scope : Scope) (b : Block) (r : core.Block × Scope) → ResultSays around.result → Holds r.1 → walk_block kinds around scope b ≡ Ok r → IsMaskedBlock r.0
       block_masked around scope (s.braced ss at) r result h e =
           let a = then_ok (walk_stmts kinds around (scope_inside scope) false ss) _ r e in
-          let same = same_ok (block_made a.first (at.to - 1), scope_behind scope a.first.1) r a.rest in
+          let same = same_ok (block_made a.first (at.to - 1), scope_after scope a.first.1) r a.rest in
           subst (λ (z : core.Block × Scope). IsMaskedBlock z.0) same (stmts_masked around (scope_inside scope) false ss a.first result (subst (λ (z : core.Block × Scope). Holds z.1) (sym same) h) a.one)
 
       else_masked : (around : Around) (scope : Scope) (end : ℕ) (o : Else) (r : core.Block × Scope) → ResultSays around.result → Holds r.1 → walk_else kinds around scope end o ≡ Ok r → IsMaskedBlock r.0
@@ -407,7 +407,7 @@ module _ (P : States → Type 0) (fits : (states : States) → P states → mask
           let y = then_ok (walk_stmts kinds around (arm_scope inside o vs) false ss) _ a.first u.1 in
           let same = same_ok (a.first.0 ∷ d.first.0, d.first.1) r d.rest in
           let after = subst (λ (z : List (ℕ × List ℕ × core.Block) × Scope). Holds z.1) (sym same) h in
-          let same_arm = same_ok ((case_number o, arm_numbers inside o vs, block_made y.first (close.to - 1)), scope_behind scope y.first.1) a.first y.rest in
+          let same_arm = same_ok ((case_number o, arm_numbers inside o vs, block_made y.first (close.to - 1)), scope_after scope y.first.1) a.first y.rest in
           let after_arm = subst (λ (z : (ℕ × List ℕ × core.Block) × Scope). Holds z.1) (sym same_arm) (back a.first.1 d.first.1 (arms_grow kinds around a.first.1 ty rest d.first d.one) after) in
           subst (λ (z : List (ℕ × List ℕ × core.Block) × Scope). AreMaskedArms (arms_made z.0)) same (
             subst (λ (z : (ℕ × List ℕ × core.Block) × Scope). IsMaskedBlock z.0.2) same_arm (stmts_masked around (arm_scope inside o vs) false ss y.first result after_arm y.one),

@@ -17,7 +17,7 @@ use Rattle.vlt_core.specs.KindedScopes.{Ids, Around, at_block_start, left_behind
 use Rattle.vlt_core.specs.KindedOperands.{value_broken}
 use Rattle.vlt_core.specs.KindedStatements.{variant_args, is_variant_type}
 use Rattle.vlt_core.specs.KindedCalls.{return_broken}
-use Rattle.vlt_core.specs.KindedBodies.{ends, arm_cases, switch_broken, owning_toks, with_vars, arm_broken, focus_broken, in_loop, in_focus, with_focus, ids_behind, ids_behind_block, ids_behind_stmts, list_broken, arms_broken, row_broken, form_rows, block_rows, stmts_rows, arms_rows}
+use Rattle.vlt_core.specs.KindedBodies.{ends, arm_cases, switch_broken, owning_toks, with_vars, arm_broken, focus_broken, in_loop, in_focus, with_focus, ids_following, ids_following_block, ids_following_stmts, list_broken, arms_broken, row_broken, form_rows, block_rows, stmts_rows, arms_rows}
 use Rattle.vlt_core.specs.declared.rules.TheConstants as rule
 use Rattle.vlt_core_laws.proofs.Good.{AllRows}
 use Rattle.vlt_core_laws.proofs.Ids.{type_keys}
@@ -144,11 +144,11 @@ module _ (t : Tok) (p : Program) (f : Func) (b : Bounds p f) (ranged : (v k : â„
         let x = call_small p f b ranged listed ids c target keys args left e in
         record { few = called_few _ _ x.few; avoids = avoid_small _ _ x; short = Î» z. z }
     form_room (core.choose y u v) around ids left e rows =
-        let behind = ids_behind_block p f u ids in
-        let first_part = left_empty (value_broken p f ids (Some core.bool) y ++ list_broken p f [] ids u) (list_broken p f [] behind v) e in
+        let following = ids_following_block p f u ids in
+        let first_part = left_empty (value_broken p f ids (Some core.bool) y ++ list_broken p f [] ids u) (list_broken p f [] following v) e in
         let x = expr_small p f b ranged listed y in
-        let one = block_room u around ids ids [] left (right_empty (value_broken p f ids (Some core.bool) y) (list_broken p f [] ids u) first_part) (each_left (block_rows p f around ids u) (block_rows p f around behind v) rows) in
-        let two = block_room v around behind behind [] left (right_empty (value_broken p f ids (Some core.bool) y ++ list_broken p f [] ids u) (list_broken p f [] behind v) e) (each_right (block_rows p f around ids u) (block_rows p f around behind v) rows) in
+        let one = block_room u around ids ids [] left (right_empty (value_broken p f ids (Some core.bool) y) (list_broken p f [] ids u) first_part) (each_left (block_rows p f around ids u) (block_rows p f around following v) rows) in
+        let two = block_room v around following following [] left (right_empty (value_broken p f ids (Some core.bool) y ++ list_broken p f [] ids u) (list_broken p f [] following v) e) (each_right (block_rows p f around ids u) (block_rows p f around following v) rows) in
         record {
           few = chosen_few _ (reads y) _ (weight_block u) _ (weight_block v) x.few one.few two.few;
           avoids = (avoid_small _ _ x, (one.avoids, two.avoids));
@@ -198,17 +198,17 @@ module _ (t : Tok) (p : Program) (f : Func) (b : Bounds p f) (ranged : (v k : â„
     block_room (core.block ss bound end) around ids within extra left e rows =
         let all = stmts_room ss around (at_block_start ids) false (left ++ bound) rows in
         record {
-          few = block_few _ (weight_list ss) _ all.few (bound_few f b.keys b.vars bound (extra ++ (ids_behind_stmts p f ss (at_block_start within)).bound) e);
-          avoids = (all.avoids, avoid _ (bound_own f b.keys b.vars bound (extra ++ (ids_behind_stmts p f ss (at_block_start within)).bound) e));
+          few = block_few _ (weight_list ss) _ all.few (bound_few f b.keys b.vars bound (extra ++ (ids_following_stmts p f ss (at_block_start within)).bound) e);
+          avoids = (all.avoids, avoid _ (bound_own f b.keys b.vars bound (extra ++ (ids_following_stmts p f ss (at_block_start within)).bound) e));
           short = all.short;
         }
 
     pub stmts_room : (ss : core.Stmts) (around : Around) (ids : Ids) (ended : Bool) (left : List Tok) â†’ EachEmpty (stmts_rows p f around ids ended ss) â†’ RoomStmts t (flow_of_stmts p made left ss) (weight_list ss)
     stmts_room core.done around ids ended left rows = record { few = none_few _; avoids = tt; short = Î» z. z }
     stmts_room (core.next at s rest) around ids ended left rows =
-        let behind = ids_behind p f s ids in
-        let one = form_room s around ids left (right_empty (unless (not ended) rule.BEHIND_END) (row_broken p f around ids s) rows.0) (each_left (form_rows p f around ids s) (stmts_rows p f around behind (ends s) rest) rows.1) in
-        let all = stmts_room rest around behind (ends s) left (each_right (form_rows p f around ids s) (stmts_rows p f around behind (ends s) rest) rows.1) in
+        let following = ids_following p f s ids in
+        let one = form_room s around ids left (right_empty (unless (not ended) rule.AFTER_END) (row_broken p f around ids s) rows.0) (each_left (form_rows p f around ids s) (stmts_rows p f around following (ends s) rest) rows.1) in
+        let all = stmts_room rest around following (ends s) left (each_right (form_rows p f around ids s) (stmts_rows p f around following (ends s) rest) rows.1) in
         record {
           few = both_few _ (weight s) _ (weight_list rest) one.few all.few;
           avoids = (one.avoids, all.avoids);
@@ -219,11 +219,11 @@ module _ (t : Tok) (p : Program) (f : Func) (b : Bounds p f) (ranged : (v k : â„
     arms_room v core.no_arms around ids left e rows = record { few = none_few _; avoids = tt; short = Î» z. z }
     arms_room v (core.arm c vs u rest) around ids left e rows =
         let inside = with_vars f vs ids in
-        let behind = left_behind ids (ids_behind_block p f u inside) in
-        let first_part = left_empty (arm_broken p f ids v c vs ++ list_broken p f (owning_toks f vs) inside u) (arms_broken p f behind v rest) e in
+        let following = left_behind ids (ids_following_block p f u inside) in
+        let first_part = left_empty (arm_broken p f ids v c vs ++ list_broken p f (owning_toks f vs) inside u) (arms_broken p f following v rest) e in
         let x = arm_small p f b ranged listed v c vs in
-        let one = block_room u around inside inside (owning_toks f vs) left (right_empty (arm_broken p f ids v c vs) (list_broken p f (owning_toks f vs) inside u) first_part) (each_left (block_rows p f around inside u) (arms_rows p f around behind rest) rows) in
-        let all = arms_room v rest around behind left (right_empty (arm_broken p f ids v c vs ++ list_broken p f (owning_toks f vs) inside u) (arms_broken p f behind v rest) e) (each_right (block_rows p f around inside u) (arms_rows p f around behind rest) rows) in
+        let one = block_room u around inside inside (owning_toks f vs) left (right_empty (arm_broken p f ids v c vs) (list_broken p f (owning_toks f vs) inside u) first_part) (each_left (block_rows p f around inside u) (arms_rows p f around following rest) rows) in
+        let all = arms_room v rest around following left (right_empty (arm_broken p f ids v c vs ++ list_broken p f (owning_toks f vs) inside u) (arms_broken p f following v rest) e) (each_right (block_rows p f around inside u) (arms_rows p f around following rest) rows) in
         record {
           few = arm_few _ (length vs) _ (weight_block u) _ (weight_arms rest) x.few one.few all.few;
           avoids = ((avoid_small _ _ x, one.avoids), all.avoids);

@@ -34,7 +34,7 @@ module _ (a : MapNotes) where
     arms_sized n (core.arm c vs b rest) = rw (block_sized n b, arms_sized (n + count_block b) rest) refl
 
   module _ (b : MapNotes) where
-    join_kept : (n : ℕ) (e : Bool) → All (Says b) (join_note n (join_of e (a.behind n))) → join_of e (b.behind n) ≡ join_of e (a.behind n)
+    join_kept : (n : ℕ) (e : Bool) → All (Says b) (join_note n (join_of e (a.following n))) → join_of e (b.following n) ≡ join_of e (a.following n)
     join_kept n true h = refl
     join_kept n false h = ap Some h.0
 
@@ -43,7 +43,7 @@ module _ (a : MapNotes) where
       kept n (core.simple s) h = refl
       kept n (core.call f target keys args) h = refl
       kept n (core.choose e x y) h =
-          let ns = join_note n (join_of (ends (core.choose e x y)) (a.behind n)) in
+          let ns = join_note n (join_of (ends (core.choose e x y)) (a.following n)) in
           let xs = block_notes (n + 1) (block_draft a (n + 1) x) in
           let ys = block_notes (n + 1 + size_block (block_draft a (n + 1) x)) (block_draft a (n + 1 + count_block x) y) in
           let inside = all_right (Says b) ns (xs ++ ys) h in
@@ -55,7 +55,7 @@ module _ (a : MapNotes) where
           rw (first, second, join) refl
       kept n (core.loop e x) h = rw (block_kept (n + 1) x h.1, h.0.0, h.0.1) refl
       kept n (core.switch v arms end) h =
-          let ns = join_note n (join_of (ends (core.switch v arms end)) (a.behind n)) in
+          let ns = join_note n (join_of (ends (core.switch v arms end)) (a.following n)) in
           let xs = arms_notes (n + 1) (arms_draft a (n + 1) arms) in
           let inside = arms_kept (n + 1) arms (all_right (Says b) ns xs h) in
           let join = join_kept n (ends (core.switch v arms end)) (all_left (Says b) ns xs h) in

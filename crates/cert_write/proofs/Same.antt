@@ -7,12 +7,12 @@ use Rattle.cert_format.specs.Notes.{MapNotes, Note, at_loop, at_join, maps_of}
 use Rattle.cert_format.specs.Bodies.{list_draft, list_notes}
 use Rattle.cert_format_laws.proofs.Redrafted.{Says}
 use Rattle.cert_format_laws.proofs.Noted.{number_of as number_in, Ascend, notes_ascend}
-use Rattle.cert_write.specs.Notes.{number_of, note_at, around_in, behind_in, maps_in, note_of, NotesAreKept}
+use Rattle.cert_write.specs.Notes.{number_of, note_at, around_in, after_in, maps_in, note_of, NotesAreKept}
 use Rattle.cert_write.proofs.Finding.{unlike, alike}
 use Rattle.cert_write.proofs.Keeping.{list_kept}
 
 abbrev maps_among : List code.Note → MapNotes
-maps_among xs = record { around = λ n. around_in (note_at xs n) ∷ []; behind = λ n. behind_in (note_at xs n) ∷ [] }
+maps_among xs = record { around = λ n. around_in (note_at xs n) ∷ []; following = λ n. after_in (note_at xs n) ∷ [] }
 
 numbered : (x : code.Note) → number_in (note_of x) ≡ number_of x
 numbered (V.Loop stmt around exit) = refl
@@ -23,8 +23,8 @@ older x xs n less = ap (λ b. if b then Some x else note_at xs n) (unlike (numbe
 
 still : (x : code.Note) (xs : List code.Note) (y : Note) → number_of x < number_in y → Says (maps_among xs) y → Says (maps_among (x ∷ xs)) y
 still x xs (at_loop n m k) less s =
-    (ap (λ o. around_in o ∷ []) (older x xs n less) ∙ s.0, ap (λ o. behind_in o ∷ []) (older x xs n less) ∙ s.1)
-still x xs (at_join n m) less s = ap (λ o. behind_in o ∷ []) (older x xs n less) ∙ s
+    (ap (λ o. around_in o ∷ []) (older x xs n less) ∙ s.0, ap (λ o. after_in o ∷ []) (older x xs n less) ∙ s.1)
+still x xs (at_join n m) less s = ap (λ o. after_in o ∷ []) (older x xs n less) ∙ s
 
 all_still : (x : code.Note) (xs : List code.Note) (ys : List Note) (least : ℕ) → number_of x < least → Ascend least ys → All (Says (maps_among xs)) ys →
     All (Says (maps_among (x ∷ xs))) ys
@@ -37,8 +37,8 @@ found x xs = ap (λ b. if b then Some x else note_at xs (number_of x)) (alike (n
 
 own : (x : code.Note) (xs : List code.Note) → Says (maps_among (x ∷ xs)) (note_of x)
 own (V.Loop stmt around exit) xs =
-    (ap (λ o. around_in o ∷ []) (found (V.Loop stmt around exit) xs), ap (λ o. behind_in o ∷ []) (found (V.Loop stmt around exit) xs))
-own (V.Join stmt m) xs = ap (λ o. behind_in o ∷ []) (found (V.Join stmt m) xs)
+    (ap (λ o. around_in o ∷ []) (found (V.Loop stmt around exit) xs), ap (λ o. after_in o ∷ []) (found (V.Loop stmt around exit) xs))
+own (V.Join stmt m) xs = ap (λ o. after_in o ∷ []) (found (V.Join stmt m) xs)
 
 all_said : (xs : List code.Note) (least : ℕ) → Ascend least (map note_of xs) → All (Says (maps_among xs)) (map note_of xs)
 all_said [] least a = tt

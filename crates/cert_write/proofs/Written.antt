@@ -55,29 +55,29 @@ module _ (o : Bool) (k : Option ℕ) (a : MapNotes) where
     form_same n (core.choose e x y) =
         ap (λ j. tagged_list (codes "if") (expr.data_of e ∷ head_part.data_of (head_of x) ∷ head_part.data_of (head_of y) ∷ j ∷ []) ∷
         (block_data (is_some k) a (n + 1) x ++ block_data (is_some k) a (n + 1 + count_block x) y))
-        (join_same k (join_of (ends (core.choose e x y)) (a.behind n))) ∙
-        ap (λ h. row_data (shape o k) (row.choose e h (head_of y) (join_of (ends (core.choose e x y)) (a.behind n))) ∷
+        (join_same k (join_of (ends (core.choose e x y)) (a.following n))) ∙
+        ap (λ h. row_data (shape o k) (row.choose e h (head_of y) (join_of (ends (core.choose e x y)) (a.following n))) ∷
         (block_data (is_some k) a (n + 1) x ++ block_data (is_some k) a (n + 1 + count_block x) y)) (sym (headed (n + 1) x)) ∙
-        ap (λ h. row_data (shape o k) (row.choose e (head (block_draft a (n + 1) x)) h (join_of (ends (core.choose e x y)) (a.behind n))) ∷
+        ap (λ h. row_data (shape o k) (row.choose e (head (block_draft a (n + 1) x)) h (join_of (ends (core.choose e x y)) (a.following n))) ∷
         (block_data (is_some k) a (n + 1) x ++ block_data (is_some k) a (n + 1 + count_block x) y)) (sym (headed (n + 1 + count_block x) y)) ∙
         ap (λ l. row_data (shape o k) (row.choose e (head (block_draft a (n + 1) x)) (head (block_draft a (n + 1 + count_block x) y))
-        (join_of (ends (core.choose e x y)) (a.behind n))) ∷ l)
+        (join_of (ends (core.choose e x y)) (a.following n))) ∷ l)
         (ap (λ l. l ++ block_data (is_some k) a (n + 1 + count_block x) y) (block_same (n + 1) x) ∙
         ap (λ l. map (row_data (shape o k)) (block_rows (block_draft a (n + 1) x)) ++ l) (block_same (n + 1 + count_block x) y) ∙
         sym (map-append (row_data (shape o k)) (block_rows (block_draft a (n + 1) x)) (block_rows (block_draft a (n + 1 + count_block x) y))))
     form_same n (core.loop e x) =
-        ap (λ j. tagged_list (codes "while") (expr.data_of e ∷ head_part.data_of (head_of x) ∷ j ∷ maps_data (is_some k) (a.behind n) ∷ []) ∷
+        ap (λ j. tagged_list (codes "while") (expr.data_of e ∷ head_part.data_of (head_of x) ∷ j ∷ maps_data (is_some k) (a.following n) ∷ []) ∷
         block_data (is_some k) a (n + 1) x) (maps_same k (a.around n)) ∙
         ap (λ j. tagged_list (codes "while") (expr.data_of e ∷ head_part.data_of (head_of x) ∷ (maps_part k).data_of (a.around n) ∷ j ∷ []) ∷
-        block_data (is_some k) a (n + 1) x) (maps_same k (a.behind n)) ∙
-        ap (λ h. row_data (shape o k) (row.loop e h (a.around n) (a.behind n)) ∷ block_data (is_some k) a (n + 1) x) (sym (headed (n + 1) x)) ∙
-        ap (λ l. row_data (shape o k) (row.loop e (head (block_draft a (n + 1) x)) (a.around n) (a.behind n)) ∷ l) (block_same (n + 1) x)
+        block_data (is_some k) a (n + 1) x) (maps_same k (a.following n)) ∙
+        ap (λ h. row_data (shape o k) (row.loop e h (a.around n) (a.following n)) ∷ block_data (is_some k) a (n + 1) x) (sym (headed (n + 1) x)) ∙
+        ap (λ l. row_data (shape o k) (row.loop e (head (block_draft a (n + 1) x)) (a.around n) (a.following n)) ∷ l) (block_same (n + 1) x)
     form_same n (core.switch v arms end) =
         ap (λ j. tagged_list (codes "switch") (nat v ∷ list (map arm_part.data_of (heads_of arms)) ∷ j ∷ []) ∷
-        arms_data (is_some k) a (n + 1) arms) (join_same k (join_of (ends (core.switch v arms end)) (a.behind n))) ∙
-        ap (λ hs. row_data (shape o k) (row.switch v hs (join_of (ends (core.switch v arms end)) (a.behind n))) ∷
+        arms_data (is_some k) a (n + 1) arms) (join_same k (join_of (ends (core.switch v arms end)) (a.following n))) ∙
+        ap (λ hs. row_data (shape o k) (row.switch v hs (join_of (ends (core.switch v arms end)) (a.following n))) ∷
         arms_data (is_some k) a (n + 1) arms) (sym (all_headed (n + 1) arms)) ∙
-        ap (λ l. row_data (shape o k) (row.switch v (arm_heads (arms_draft a (n + 1) arms)) (join_of (ends (core.switch v arms end)) (a.behind n))) ∷ l)
+        ap (λ l. row_data (shape o k) (row.switch v (arm_heads (arms_draft a (n + 1) arms)) (join_of (ends (core.switch v arms end)) (a.following n))) ∷ l)
         (arms_same (n + 1) arms)
     form_same n (core.focus y z x) =
         ap (λ h. row_data (shape o k) (row.focus y z h) ∷ block_data (is_some k) a (n + 1) x) (sym (headed (n + 1) x)) ∙

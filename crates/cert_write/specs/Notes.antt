@@ -28,16 +28,16 @@ around_in None = []
 around_in (Some (note.Loop stmt around exit)) = listed_map around
 around_in (Some (note.Join stmt m)) = []
 
-abbrev pub behind_in : Option code.Note → ListedMap
-behind_in None = []
-behind_in (Some (note.Loop stmt around exit)) = listed_map exit
-behind_in (Some (note.Join stmt m)) = listed_map m
+abbrev pub after_in : Option code.Note → ListedMap
+after_in None = []
+after_in (Some (note.Loop stmt around exit)) = listed_map exit
+after_in (Some (note.Join stmt m)) = listed_map m
 
 -- the maps of each statement, one of each annotation
 abbrev pub maps_in : List Annotation → MapNotes
 maps_in annotations = record {
   around = λ n. map (λ a. around_in (note_at a.maps n)) annotations;
-  behind = λ n. map (λ a. behind_in (note_at a.maps n)) annotations;
+  following = λ n. map (λ a. after_in (note_at a.maps n)) annotations;
 }
 
 -- the notes of a function's loops and of its choices that don't end, in order

@@ -31,7 +31,7 @@ maps_data false ms = map_part.data_of (first_map ms)
 module _ (bound : Bool) (a : MapNotes) where
   -- in place of the maps after a choice
   abbrev pub join_data : (n : ℕ) → (does_end : Bool) → Data
-  join_data n does_end = zero_data (maps_data bound) (join_of does_end (a.behind n))
+  join_data n does_end = zero_data (maps_data bound) (join_of does_end (a.following n))
 
   -- the row of the statement of this number itself
   abbrev pub own_data : (n : ℕ) → core.Form → Data
@@ -42,7 +42,7 @@ module _ (bound : Bool) (a : MapNotes) where
       join_data n (ends (core.choose e x y)) ∷ [])
   own_data n (core.loop e x) = tagged_list (codes "while")
       (expr.data_of e ∷ head.data_of (head_of x) ∷ maps_data bound (a.around n) ∷
-      maps_data bound (a.behind n) ∷ [])
+      maps_data bound (a.following n) ∷ [])
   own_data n (core.switch v arms end) = tagged_list (codes "switch")
       (nat v ∷ list (map arm.data_of (heads_of arms)) ∷
       join_data n (ends (core.switch v arms end)) ∷ [])
@@ -90,7 +90,7 @@ pub record IsReady (annotations : List Annotation) (p : Cursor) : Type 0 where
   pub before : AreAllBefore annotations p
   pub early : p.at ≤ p.next
 
--- From the statement of number n the rows of so many statements were written behind the old tokens.
+-- From the statement of number n the rows of so many statements were written after the old tokens.
 pub record IsPut (annotations : List Annotation) (n size : ℕ) (rows : List Data)
     (old new : List Token) (to : Cursor) : Type 0 where
   pub written : new ≡ each_laid rows old

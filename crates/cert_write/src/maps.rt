@@ -4,7 +4,7 @@ ghost use Rattle.std.specs.Prelude.{◌≡◌, [], map, take, false, Some, OnOk}
 ghost use Rattle.cert_rows.specs.Parts.{list};
 ghost use Rattle.cert_rows.specs.Values.{map_part};
 ghost use Rattle.cert_values.specs.Laid.{laid};
-ghost use Rattle.cert_write.specs.Notes.{note_at as note_of, around_in, behind_in, maps_in};
+ghost use Rattle.cert_write.specs.Notes.{note_at as note_of, around_in, after_in, maps_in};
 ghost use Rattle.cert_write.specs.Rows.{AreBefore, AreAllBefore, maps_data, join_data};
 
 use crate::cursor::Cursor;
@@ -30,9 +30,9 @@ fn put_note_around(out: &mut CertText, note: &Note) -> Result<(), AllocError>
     }
 }
 
-fn put_note_behind(out: &mut CertText, note: &Note) -> Result<(), AllocError>
+fn put_note_after(out: &mut CertText, note: &Note) -> Result<(), AllocError>
     ensures { OnOk result (out.new
-        ≡ laid (map_part.data_of (behind_in (Some note.now))) out.old) }
+        ≡ laid (map_part.data_of (after_in (Some note.now))) out.old) }
 {
     match note {
         Note::Loop { exit, .. } => put_map(out, exit),
@@ -51,13 +51,13 @@ fn put_around(out: &mut CertText, notes: &[Note], from: Cursor) -> Result<(), Al
     }
 }
 
-fn put_behind(out: &mut CertText, notes: &[Note], from: Cursor) -> Result<(), AllocError>
+fn put_after(out: &mut CertText, notes: &[Note], from: Cursor) -> Result<(), AllocError>
     requires { AreBefore from.next (take from.at notes.now) }
     ensures { OnOk result (out.new
-        ≡ laid (map_part.data_of (behind_in (note_of notes.now from.next))) out.old) }
+        ≡ laid (map_part.data_of (after_in (note_of notes.now from.next))) out.old) }
 {
     match note_at(notes, from) {
-        Some(note) => put_note_behind(out, note),
+        Some(note) => put_note_after(out, note),
         None => put_no_map(out),
     }
 }
@@ -78,18 +78,18 @@ fn put_each_around(
     out.end()
 }
 
-fn put_each_behind(
+fn put_each_after(
     out: &mut CertText,
     annotations: &[Annotation],
     from: Cursor,
 ) -> Result<(), AllocError>
     requires { AreAllBefore annotations.now from }
     ensures { OnOk result (out.new ≡ laid (list (map map_part.data_of
-        ((maps_in annotations.now).behind from.next))) out.old) }
+        ((maps_in annotations.now).following from.next))) out.old) }
 {
     out.begin()?;
     for annotation in annotations {
-        put_behind(out, annotation.maps.as_slice(), from)?;
+        put_after(out, annotation.maps.as_slice(), from)?;
     }
     out.end()
 }
@@ -109,17 +109,17 @@ fn put_first_around(
     }
 }
 
-fn put_first_behind(
+fn put_first_after(
     out: &mut CertText,
     annotations: &[Annotation],
     from: Cursor,
 ) -> Result<(), AllocError>
     requires { AreAllBefore annotations.now from }
     ensures { OnOk result (out.new
-        ≡ laid (maps_data false ((maps_in annotations.now).behind from.next)) out.old) }
+        ≡ laid (maps_data false ((maps_in annotations.now).following from.next)) out.old) }
 {
     match annotations.first() {
-        Some(annotation) => put_behind(out, annotation.maps.as_slice(), from),
+        Some(annotation) => put_after(out, annotation.maps.as_slice(), from),
         None => put_no_map(out),
     }
 }
@@ -143,7 +143,7 @@ pub fn put_maps_around(
 }
 
 /// Writes the maps after the next statement, a loop or a choice.
-pub fn put_maps_behind(
+pub fn put_maps_after(
     out: &mut CertText,
     bound: bool,
     annotations: &[Annotation],
@@ -151,12 +151,12 @@ pub fn put_maps_behind(
 ) -> Result<(), AllocError>
     requires { AreAllBefore annotations.now from }
     ensures { OnOk result (out.new
-        ≡ laid (maps_data bound ((maps_in annotations.now).behind from.next)) out.old) }
+        ≡ laid (maps_data bound ((maps_in annotations.now).following from.next)) out.old) }
 {
     if bound {
-        put_each_behind(out, annotations, from)
+        put_each_after(out, annotations, from)
     } else {
-        put_first_behind(out, annotations, from)
+        put_first_after(out, annotations, from)
     }
 }
 
@@ -175,6 +175,6 @@ pub fn put_join(
     if ends {
         out.number(0)
     } else {
-        put_maps_behind(out, bound, annotations, from)
+        put_maps_after(out, bound, annotations, from)
     }
 }

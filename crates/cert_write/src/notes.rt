@@ -69,7 +69,7 @@ fn are_next(annotations: &[Annotation], from: Cursor) -> bool
     true
 }
 
-/// The cursor after a statement's own row. There is none behind the last number of a `usize`, nor memory for so many statements.
+/// The cursor after a statement's own row. There is none after the last number of a `usize`, nor memory for so many statements.
 pub fn after(annotations: &[Annotation], from: Cursor) -> Result<Cursor, AllocError>
     requires { IsReady annotations.now from }
     ensures next { IfOk result (λ to. to.next ≡ from.next + 1) }

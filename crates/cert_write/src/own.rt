@@ -10,7 +10,7 @@ ghost use Rattle.cert_write.specs.Rows.{own_data, IsReady, IsPut};
 
 use crate::cursor::Cursor;
 use crate::ends::{arms_end, block_ends};
-use crate::maps::{put_join, put_maps_around, put_maps_behind};
+use crate::maps::{put_join, put_maps_after, put_maps_around};
 use crate::notes::after;
 use cert_values::{
     CertText, put_arms, put_expr, put_focus as put_focus_row, put_head, put_plain as put_plain_row,
@@ -63,7 +63,7 @@ pub fn put_loop(
     put_expr(out, cond)?;
     put_head(out, body)?;
     put_maps_around(out, bound, annotations, from)?;
-    put_maps_behind(out, bound, annotations, from)?;
+    put_maps_after(out, bound, annotations, from)?;
     out.end()?;
     after(annotations, from)
 }

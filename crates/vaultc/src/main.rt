@@ -14,7 +14,7 @@ use vaultc_core::status::{NO_COMMAND, NO_MEMORY, SINK_FAILED};
 use vaultc_core::vaultc;
 use vlt_io::{DirStore, Logged, OutSink};
 
-/// The words behind the program's name.
+/// The words after the program's name.
 fn words_of<R: Env + AllocGlobal>(rt: &R) -> io::Result<Vec<String>> {
     let mut words: Vec<String> = env::args(rt)?.collect(rt.alloc())?;
     if !words.is_empty() {
@@ -24,8 +24,8 @@ fn words_of<R: Env + AllocGlobal>(rt: &R) -> io::Result<Vec<String>> {
     Ok(words)
 }
 
-/// Carries out the command that the words are, and gives its status. Words that aren't text are no command, and where memory is
-/// wanting for the words the status says so.
+/// Carries out the command that the words are, and gives its status. Words that aren't text are no command, and where memory
+/// runs out for the words the status says so.
 fn status_of<R: Files + Print + AllocGlobal>(rt: &R, words: io::Result<Vec<String>>) -> u8
     ensures no_text { IfErr words (λ e. error_kind e ≢ ErrorKind.OutOfMemory →
         (result ≡ NO_COMMAND) ⊎ (result ≡ SINK_FAILED)) }

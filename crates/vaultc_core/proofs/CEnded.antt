@@ -30,7 +30,7 @@ use Rattle.vaultc_core.specs.declared.status.TheConstants.{DONE, UNREAD, SINK_FA
 use Rattle.vaultc_core.specs.declared.reply.Reply.{Reply as Shown}
 use Rattle.vaultc_core.specs.CRuns.{c_refusal, undefined_line, stop_reply, end_reply, took, IsReplyToC}
 use Rattle.vaultc_core.specs.Finishes.{Finishes}
-use Rattle.vaultc_core.specs.Lines.{Reply, reply, trap_line, bad_answer_line, behind}
+use Rattle.vaultc_core.specs.Lines.{Reply, reply, trap_line, bad_answer_line, following}
 use Rattle.vaultc_core.specs.Shown.{IsReasonOf, IsTellableEnd, StopsRun, StopsC, EndsC, IsReplyOf, shown_reply}
 use Rattle.vaultc_core.specs.Runs.{stop_line, end_line}
 use Rattle.vaultc_core.proofs.Ended.{Says, cut_off, came_to_end}
@@ -195,7 +195,7 @@ module _ (text input answers : List ℕ) (b : Budgets) where
 one_says : (text input answers : List ℕ) (b : Budgets) (end : CEnd) (events : List ℕ) (last : Reply) → end_reply text end ≡ Some last
     → EndsAs text input answers b (took []) (took events) end → Says (IsReplyToC text input answers b) (λ r. r ≡ last) events
 one_says text input answers b end events last line ends = record {
-  replies = λ r same. record { end = end; events = events; ends = ends; last = last; last_is = line; whole = ap (behind events) same };
+  replies = λ r same. record { end = end; events = events; ends = ends; last = last; last_is = line; whole = ap (following events) same };
   inside = λ r same. subst (λ q. q.status ≢ UNREAD) (sym same) (own_c_end text end last line).1;
   some = (last, refl);
 }
@@ -238,7 +238,7 @@ sink_or_memory : (result : ℕ) (F : Type 0) → ((result ≡ SINK_FAILED) × F)
 sink_or_memory result F (inl (three, f)) = inl three
 sink_or_memory result F (inr four) = inr four
 
--- memory was wanting, and nothing was written
+-- memory ran out, and nothing was written
 memory_wanting : {K : Type 0} (g : Ghosts K) (P : Reply → Type 0) (old mid : K) (end : CEnd) (result : ℕ) → Grew (g.written old) (g.written mid) [] → (end ≡ Ended (Stopped (halted.Stopped stop.SinkFault)) → ⊥)
     → ((result ≡ SINK_FAILED) × (end ≡ Ended (Stopped (halted.Stopped stop.SinkFault)))) ⊎ (result ≡ NO_MEMORY) → Finishes g P old mid result
 memory_wanting g P old mid end result none other (inl (three, cut)) = absurd (other cut)

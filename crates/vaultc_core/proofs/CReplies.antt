@@ -27,14 +27,14 @@ use Rattle.c_interp.specs.declared.runs.end.CEnd.{CEnd}
 use Rattle.c_interp.specs.declared.runs.end.CEnd.TheVariants.{Unread, Ended}
 use Rattle.vaultc_core.specs.CRuns.{c_refusal, stop_reply, end_reply, took, IsReplyToC}
 use Rattle.vaultc_core.specs.Runs.{end_line}
-use Rattle.vaultc_core.specs.Lines.{Reply, over_reply, numbers_reply, behind}
+use Rattle.vaultc_core.specs.Lines.{Reply, over_reply, numbers_reply, following}
 use Rattle.vaultc_core.proofs.CEnded.{none_some, outcome_there, stop_for, line_of, stops_whole, of_outcome}
 
 -- ---- what is replied, by what the files are
 
 -- the run's events, and the last line of its outcome
 abbrev SaysRan : Ran → Reply → Type 0
-SaysRan ran r = r ≡ behind (event_text ran.world.events) ((stop_for ran.outcome).last)
+SaysRan ran r = r ≡ following (event_text ran.world.events) ((stop_for ran.outcome).last)
 
 -- over the numbers of the files, or the lines of them that are bad
 abbrev SaysOver : Program → Given → Budgets → Reply → Type 0
@@ -66,8 +66,8 @@ no_events : (events : List ℕ) → IsUntouched (took []) (took events) → even
 no_events events same = same_Some events [] (ap (λ o. o.written) same)
 
 -- the last line alone
-alone : (events : List ℕ) (last r : Reply) → IsUntouched (took []) (took events) → r ≡ behind events last → r ≡ last
-alone events last r same whole = whole ∙ ap (λ x. behind x last) (no_events events same)
+alone : (events : List ℕ) (last r : Reply) → IsUntouched (took []) (took events) → r ≡ following events last → r ≡ last
+alone events last r same whole = whole ∙ ap (λ x. following x last) (no_events events same)
 
 -- what a refused file of numbers has as reply
 refused_line : (refusal end : RunEnd CStop) (line last r : Reply) → end_line stop_reply refusal ≡ Some line → (end ≡ refusal) ⊎ (end ≡ Memory) → end_line stop_reply end ≡ Some last → r ≡ last → r ≡ line
@@ -75,16 +75,16 @@ refused_line refusal end line last r is (inl e) told same = same ∙ same_Some l
 refused_line refusal end line last r is (inr e) told same = absurd (none_some last (sym (ap (end_line stop_reply) e) ∙ told))
 
 ran_says : (p : Program) (b : Budgets) (input : List ℤ) (answers : List (List ℤ)) (s : CStop) (events : List ℕ) (last r : Reply) → StopsAs (c_run p b.fuel b.heap b.depth input answers) (took []) (took events) s → stop_reply s ≡ Some last
-    → r ≡ behind events last → SaysRan (c_run p b.fuel b.heap b.depth input answers) r
+    → r ≡ following events last → SaysRan (c_run p b.fuel b.heap b.depth input answers) r
 ran_says p b input answers s events last r stops line whole =
     let ran = c_run p b.fuel b.heap b.depth input answers in
     let o = outcome_there s last line in
     let told = of_outcome ran (took []) (took events) s o.0 o.1 stops in
     let written : events ≡ event_text ran.world.events = same_Some events (event_text ran.world.events) told.1 in
     let last_is : last ≡ (stop_for ran.outcome).last = same_Some last ((stop_for ran.outcome).last) (sym line ∙ line_of s ran.outcome told.0) in
-    whole ∙ ap (λ e. behind e last) written ∙ ap (λ l. behind (event_text ran.world.events) l) last_is
+    whole ∙ ap (λ e. following e last) written ∙ ap (λ l. following (event_text ran.world.events) l) last_is
 
-over : (p : Program) (given : Given) (b : Budgets) (end : RunEnd CStop) (events : List ℕ) (last r : Reply) → EndsGiven p given b (took []) (took events) end → end_line stop_reply end ≡ Some last → r ≡ behind events last → SaysOver p given b r
+over : (p : Program) (given : Given) (b : Budgets) (end : RunEnd CStop) (events : List ℕ) (last r : Reply) → EndsGiven p given b (took []) (took events) end → end_line stop_reply end ≡ Some last → r ≡ following events last → SaysOver p given b r
 over p (bad_input n) b end events last r x line whole = refused_line (BadInput n) end (numbers_reply (codes "input") n) last r refl x.0 line (alone events last r x.1 whole)
 over p (bad_answers n) b end events last r x line whole = refused_line (BadAnswers n) end (numbers_reply (codes "answers") n) last r refl x.0 line (alone events last r x.1 whole)
 over p (numbers input answers) b TooWide events last r x line whole = inl (x.0, alone events last r x.1 whole ∙ sym (same_Some (over_reply VALUE_SLOTS) last line))
@@ -94,7 +94,7 @@ over p (numbers input answers) b (BadAnswers n) events last r x line whole = abs
 over p (numbers input answers) b Memory events last r x line whole = absurd (none_some last line)
 
 with_program : (text input answers : List ℕ) (b : Budgets) (end : RunEnd CStop) (events : List ℕ) (last r : Reply) → EndsWith text input answers b (took []) (took events) end → end_line stop_reply end ≡ Some last
-    → r ≡ behind events last → Says text input answers b r
+    → r ≡ following events last → Says text input answers b r
 with_program text input answers b end events last r x line whole = inr (record {
   program = x.program;
   cert = x.cert;
@@ -103,7 +103,7 @@ with_program text input answers b end events last r x line whole = inr (record {
 })
 
 says : (text input answers : List ℕ) (b : Budgets) (end : CEnd) (events : List ℕ) (last r : Reply) → EndsAs text input answers b (took []) (took events) end → end_reply text end ≡ Some last
-    → r ≡ behind events last → Says text input answers b r
+    → r ≡ following events last → Says text input answers b r
 says text input answers b (Unread e) events last r ends line whole = inl (record { error = e; is = ends.0; last = last; line = line; same = alone events last r ends.1 whole })
 says text input answers b (Ended (BadInput n)) events last r x line whole = with_program text input answers b (BadInput n) events last r x line whole
 says text input answers b (Ended (BadAnswers n)) events last r x line whole = with_program text input answers b (BadAnswers n) events last r x line whole
@@ -146,7 +146,7 @@ HasReply text input answers b = (r : Reply) × IsReplyToC text input answers b r
 
 -- an end that writes nothing but its line
 ends_at_once : (text input answers : List ℕ) (b : Budgets) (end : CEnd) (last : Reply) → EndsAs text input answers b (took []) (took []) end → end_reply text end ≡ Some last → HasReply text input answers b
-ends_at_once text input answers b end last ends line = (behind [] last, record { end = end; events = []; ends = ends; last = last; last_is = line; whole = refl })
+ends_at_once text input answers b end last ends line = (following [] last, record { end = end; events = []; ends = ends; last = last; last_is = line; whole = refl })
 
 of_unread : (text input answers : List ℕ) (b : Budgets) (e : CError) → IsUnread text e → HasReply text input answers b
 of_unread text input answers b (error.Unexpected at) is = ends_at_once text input answers b (Unread (error.Unexpected at)) _ (is, refl) refl
@@ -168,7 +168,7 @@ module _ (text input answers : List ℕ) (b : Budgets) (p : Program) (c : Option
       let ran = c_run p b.fuel b.heap b.depth ns lists in
       let s = stop_for ran.outcome in
       let events = event_text ran.world.events in (
-        behind events s.last,
+        following events s.last,
         record {
           end = Ended (Stopped s.stop);
           events = events;

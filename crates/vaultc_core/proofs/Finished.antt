@@ -32,7 +32,7 @@ finishes_as g P Q old new status more f = record {
   memory = λ four. inside_as g P Q old new more (f.memory four);
 }
 
--- memory was wanting before anything was written
+-- memory ran out before anything was written
 pub none_written : {K : Type 0} (g : Ghosts K) (P : Reply → Type 0) (old : K) → Finishes g P old old NO_MEMORY
 none_written g P old = record {
   whole = λ sink memory. absurd (memory refl);

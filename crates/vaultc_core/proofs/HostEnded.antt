@@ -25,7 +25,7 @@ use Rattle.vlt_host.specs.declared.runs.stop.HostStop.{HostStop}
 use Rattle.vlt_host.specs.declared.runs.stop.HostStop.TheVariants as host
 use Rattle.vaultc_core.specs.declared.status.TheConstants.{UNREAD, SINK_FAILED, NO_MEMORY}
 use Rattle.vaultc_core.specs.Finishes.{Finishes}
-use Rattle.vaultc_core.specs.Lines.{Reply, over_reply, numbers_reply, behind}
+use Rattle.vaultc_core.specs.Lines.{Reply, over_reply, numbers_reply, following}
 use Rattle.vaultc_core.specs.HostRuns.{bad_call_reply, host_last_of, IsReplyToCallsOver, IsReplyToCalls, IsReplyToHost}
 use Rattle.vaultc_core.specs.Shown.{EndsHost, RefusesCalls}
 use Rattle.vaultc_core.proofs.Ended.{Says, cut_off, came_to_end}
@@ -36,7 +36,7 @@ use Rattle.vaultc_core.proofs.RunEnded.{seen, untouched_grew, line_alone, last_t
 not_cut : Memory ≡ Stopped (host.Stopped SinkFault) → ⊥
 not_cut e = cc
 
--- memory was wanting, and nothing was written
+-- memory ran out, and nothing was written
 memory_wanting : {K : Type 0} (g : Ghosts K) (Replies : Reply → Type 0) (old mid new : K) (result : ℕ) → IsUntouched (seen g old) (seen g mid)
     → EndsHost g Memory mid new result → Finishes g Replies old new result
 memory_wanting g Replies old mid new result same (stays, inl (three, cut)) = absurd (not_cut cut)
@@ -62,7 +62,7 @@ module _ (p : Program) (calls : List HostCall) (input : List ℤ) (answers : Lis
   -- the text of the run and this last line are a reply
   ran_says : (last : Reply) → (IsTooWideForHost p b → ⊥) → host_last_of ran.outcome ≡ Some last → Says (IsReplyToCallsOver p calls input answers b) (λ r. r ≡ last) ran.text
   ran_says last fits of = record {
-    replies = λ r same. inr (fits, (last, of, ap (behind ran.text) same));
+    replies = λ r same. inr (fits, (last, of, ap (following ran.text) same));
     inside = λ r same. subst (λ q. q.status ≢ UNREAD) (sym same) (own_host_outcome ran.outcome last of).1;
     some = (last, refl);
   }
@@ -110,7 +110,7 @@ over_numbers g p calls input answers b old mid new Memory result never same f =
 
 -- ---- the files of numbers
 
--- a bad line is told, or memory was wanting
+-- a bad line is told, or memory ran out
 refused : {K : Type 0} (g : Ghosts K) (Replies : Reply → Type 0) (old mid new : K) (refusal end : RunEnd HostStop) (result : ℕ) (last : Reply) → Replies last → last.status ≢ UNREAD
     → (EndsHost g refusal mid new result → Finishes g (λ r. r ≡ last) mid new result)
     → IsRefusal refusal (seen g old) (seen g mid) end → EndsHost g end mid new result → Finishes g Replies old new result

@@ -12,7 +12,7 @@ use Rattle.vlt_lexer.specs.declared.scan.Stuck.{Stuck}
 use Rattle.vlt_lexer.specs.declared.scan.Stuck.TheVariants as stuck
 use Rattle.vlt_lexer.specs.declared.LexError.{LexError}
 use Rattle.vlt_lexer.specs.declared.LexError.TheVariants as error
-use Rattle.vlt_lexer.specs.Characters.{is_blank, is_digit, value_of, behind, or_else, after_line, after_close, width}
+use Rattle.vlt_lexer.specs.Characters.{is_blank, is_digit, value_of, following, or_else, after_line, after_close, width}
 use Rattle.vlt_lexer.specs.Lexemes.{max_number}
 use Rattle.vlt_lexer.specs.Reading.{Lexeme, IsGap, blank, IsToken, Reads, nothing, gap, token, IsStuck}
 use Rattle.vlt_lexer.specs.Steps.{run, past_run, past_name, sign_of, keyword_of, kind_of, IsNoComment}
@@ -20,7 +20,7 @@ use Rattle.vlt_lexer.specs.Text.{IsTokensOf, StopsAt, IsRefused}
 use Rattle.vlt_lexer.proofs.Bytes.{width_chars}
 use Rattle.vlt_lexer.proofs.Found.{Stands, line_gap, block_gap, number_stands, number_stuck, name_stands, tick_stands, sign_stands, bad_stuck, tick_stuck}
 use Rattle.vlt_lexer.proofs.OneKind.{piece_of, no_empty_piece}
-use Rattle.vlt_lexer.proofs.Runs.{behind_splits, some_is}
+use Rattle.vlt_lexer.proofs.Runs.{after_splits, some_is}
 use Rattle.vlt_lexer.proofs.Words.{kind_is}
 
 bool_cases : (b : Bool) → (b ≡ true) ⊎ (b ≡ false)
@@ -41,14 +41,14 @@ line_rest : (cs : List ℕ) → (front : List ℕ) × (cs ≡ front ++ after_lin
 line_rest [] = ([], refl)
 line_rest (c ∷ cs) = line_at c cs (c == 10) refl (line_rest cs)
 
-close_at : (c : ℕ) (cs after : List ℕ) (o : Option (List ℕ)) → behind (codes "*/") (c ∷ cs) ≡ o → or_else o (after_close cs) ≡ Some after
+close_at : (c : ℕ) (cs after : List ℕ) (o : Option (List ℕ)) → following (codes "*/") (c ∷ cs) ≡ o → or_else o (after_close cs) ≡ Some after
     → (after_close cs ≡ Some after → (front : List ℕ) × (cs ≡ front ++ after)) → (front : List ℕ) × (c ∷ cs ≡ front ++ after)
-close_at c cs after (Some x) is same rest = (codes "*/", behind_splits (codes "*/") (c ∷ cs) x is ∙ ap (λ l. codes "*/" ++ l) (some_is same))
+close_at c cs after (Some x) is same rest = (codes "*/", after_splits (codes "*/") (c ∷ cs) x is ∙ ap (λ l. codes "*/" ++ l) (some_is same))
 close_at c cs after None is same rest = (let r = rest same in (c ∷ r.0, ap (λ l. c ∷ l) r.1))
 
 close_rest : (cs after : List ℕ) → after_close cs ≡ Some after → (front : List ℕ) × (cs ≡ front ++ after)
 close_rest [] after e = absurd cc
-close_rest (c ∷ cs) after e = close_at c cs after (behind (codes "*/") (c ∷ cs)) refl e (close_rest cs after)
+close_rest (c ∷ cs) after e = close_at c cs after (following (codes "*/") (c ∷ cs)) refl e (close_rest cs after)
 
 -- ---- one step
 
@@ -92,17 +92,17 @@ comment_at : (c : ℕ) (ds inside front after : List ℕ) (second : ℕ) → c �
 comment_at c ds inside front after second begins rest g = passed 47 (second ∷ front) after (begins ∙ ap (λ l. 47 ∷ second ∷ l) rest) g
 
 step_at : (c : ℕ) (ds : List ℕ) → is_blank c ≡ false → Step (c ∷ ds)
-step_at c ds no_blank = elim (option_cases (behind (codes "//") (c ∷ ds))) [
+step_at c ds no_blank = elim (option_cases (following (codes "//") (c ∷ ds))) [
   | inr some ↦
       let rest = line_rest some.0 in
-      comment_at c ds some.0 rest.0 (after_line some.0) 47 (behind_splits (codes "//") (c ∷ ds) some.0 some.1) rest.1 (line_gap (c ∷ ds) some.0 (after_line some.0) some.1 refl)
-  | inl no_line ↦ elim (option_cases (behind (codes "/*") (c ∷ ds))) [
+      comment_at c ds some.0 rest.0 (after_line some.0) 47 (after_splits (codes "//") (c ∷ ds) some.0 some.1) rest.1 (line_gap (c ∷ ds) some.0 (after_line some.0) some.1 refl)
+  | inl no_line ↦ elim (option_cases (following (codes "/*") (c ∷ ds))) [
     | inl no_block ↦ plain_at c ds no_blank (no_line, no_block)
     | inr some ↦ elim (option_cases (after_close some.0)) [
-      | inl none ↦ halted stuck.OpenComment (some.0, behind_splits (codes "/*") (c ∷ ds) some.0 some.1, none)
+      | inl none ↦ halted stuck.OpenComment (some.0, after_splits (codes "/*") (c ∷ ds) some.0 some.1, none)
       | inr closed ↦
           let rest = close_rest some.0 closed.0 closed.1 in
-          comment_at c ds some.0 rest.0 closed.0 42 (behind_splits (codes "/*") (c ∷ ds) some.0 some.1) rest.1 (block_gap (c ∷ ds) some.0 closed.0 some.1 closed.1)
+          comment_at c ds some.0 rest.0 closed.0 42 (after_splits (codes "/*") (c ∷ ds) some.0 some.1) rest.1 (block_gap (c ∷ ds) some.0 closed.0 some.1 closed.1)
     ]
   ]
 ]
@@ -120,8 +120,8 @@ step (c ∷ ds) = elim (bool_cases (is_blank c)) [
 abbrev Ended : ℕ → List ℕ → Type 0
 Ended total cs = (ls : List Lexeme) × (left : List ℕ) × Reads total cs ls left × (width left ≤ total) × ((left ≡ []) ⊎ ((f : Stuck) × IsStuck f left))
 
-width_behind : (front after : List ℕ) → width after ≤ width (front ++ after)
-width_behind front after = omega (arith, ap length (encodes-append front after), length-append (encode_utf8_all front) (encode_utf8_all after))
+width_after : (front after : List ℕ) → width after ≤ width (front ++ after)
+width_after front after = omega (arith, ap length (encodes-append front after), length-append (encode_utf8_all front) (encode_utf8_all after))
 
 empty_piece : (k : TokenKind) (cs after : List ℕ) → Stands k cs after → length after < length cs
 empty_piece k cs after ([], begins, longest, is) = absurd (no_empty_piece [] refl (piece_of k [] is))
@@ -143,12 +143,12 @@ ended_at : (n total : ℕ) (cs : List ℕ) → length cs ≤ suc n → width cs 
 ended_at n total cs fits wide more (done e) = ([], cs, nothing cs, wide, inl e)
 ended_at n total cs fits wide more (halted f is) = ([], cs, nothing cs, wide, inr (f, is))
 ended_at n total cs fits wide more (passed first front after begins g) =
-    let narrow : width after ≤ total = omega (arith, wide, width_behind (first ∷ front) after, ap width begins) in
+    let narrow : width after ≤ total = omega (arith, wide, width_after (first ∷ front) after, ap width begins) in
     let shorter : length after ≤ n = omega (arith, fits, ap length begins, length-append front after) in
     let rest = more after shorter narrow in
     (rest.0, rest.1, gap cs after rest.0 rest.1 g rest.2, rest.3, rest.4)
 ended_at n total cs fits wide more (found k after stands) =
-    let narrow : width after ≤ total = omega (arith, wide, width_behind stands.0 after, ap width stands.1) in
+    let narrow : width after ≤ total = omega (arith, wide, width_after stands.0 after, ap width stands.1) in
     let shorter : length after ≤ n = omega (arith, fits, empty_piece k cs after stands) in
     let rest = more after shorter narrow in
     let l : Lexeme = record { kind = k; text = encode_utf8_all stands.0; from = total - width cs; to = total - width after } in

@@ -159,9 +159,9 @@ module _ (n : ℕ) (text : List ℕ) (p : Program) (emitted : ℕ) where
     stopped_otherwise o last of other fits same f =
         finishes_as g (λ r. r ≡ last) (IsReplyAfterEmit n text p emitted) old new result (λ r is. inr (fits, (last, ap last_of (sym same) ∙ of, inl (other, is)))) f
 
-    -- memory was wanting
-    wanting : new ≡ old → result ≡ NO_MEMORY → Finishes g (IsReplyAfterEmit n text p emitted) old new result
-    wanting stays four =
+    -- memory ran out
+    ran_out : new ≡ old → result ≡ NO_MEMORY → Finishes g (IsReplyAfterEmit n text p emitted) old new result
+    ran_out stays four =
         subst (λ k. Finishes g (IsReplyAfterEmit n text p emitted) old k result) (sym stays)
         (subst (λ s. Finishes g (IsReplyAfterEmit n text p emitted) old old s) (sym four) (none_written g (IsReplyAfterEmit n text p emitted) old))
 
@@ -189,7 +189,7 @@ module _ (n : ℕ) (text : List ℕ) (p : Program) (emitted : ℕ) where
     run_otherwise before after TooWide (wide, same) other whole f =
         finishes_as g (λ r. r ≡ over_reply VALUE_SLOTS) (IsReplyAfterEmit n text p emitted) old new result (λ r is. inl (wide, is)) f
     run_otherwise before after Memory same other whole (stays, inl (three, cut)) = absurd (not_sink_fault cut)
-    run_otherwise before after Memory same other whole (stays, inr four) = wanting stays four
+    run_otherwise before after Memory same other whole (stays, inr four) = ran_out stays four
 
 -- ---- the C file
 

@@ -121,16 +121,16 @@ front_long f (Some whole) bytes rest front long = long_before f whole rest (long
 abbrev pub IsToldAs : (before after : ℕ) → Files → List (Option Source) → Read → Type 0
 IsToldAs before after files fs x = (x ≡ read_in files fs) ⊎ ((name : List ℕ) × (x ≡ unread name) × Rose before after)
 
-told_behind : (before mid after : ℕ) (files : Files) (fs : List (Option Source)) (bytes : List ℕ) (x rest whole : Read) → before ≤ mid → x ≡ with_bytes bytes rest
+told_after : (before mid after : ℕ) (files : Files) (fs : List (Option Source)) (bytes : List ℕ) (x rest whole : Read) → before ≤ mid → x ≡ with_bytes bytes rest
     → with_bytes bytes (read_in files fs) ≡ whole → IsToldAs mid after files fs rest → (x ≡ whole) ⊎ ((name : List ℕ) × (x ≡ unread name) × Rose before after)
-told_behind before mid after files fs bytes x rest whole counted e is (inl same) = inl (e ∙ ap (with_bytes bytes) same ∙ is)
-told_behind before mid after files fs bytes x rest whole counted e is (inr (name, same, rose)) = inr (name, e ∙ ap (with_bytes bytes) same, rose_after before mid after counted rose)
+told_after before mid after files fs bytes x rest whole counted e is (inl same) = inl (e ∙ ap (with_bytes bytes) same ∙ is)
+told_after before mid after files fs bytes x rest whole counted e is (inr (name, same, rose)) = inr (name, e ∙ ap (with_bytes bytes) same, rose_after before mid after counted rose)
 
 pub told_as : {S : Type 0} (g : Ghosts S) (old new : S) (files : Files) (fs : List (Option Source)) (x : Read) → g.files old ≡ Some files → MayRead g old new fs x
     → IsToldAs (g.faults old) (g.faults new) files fs x
 told_as g old new files [] x tells (same, e) = inl e
 told_as g old new files (None ∷ fs) x tells (rest, may, e) =
-    told_behind (g.faults old) (g.faults old) (g.faults new) files fs [] x rest (with_bytes [] (read_in files fs)) (omega arith) e refl (told_as g old new files fs rest tells may)
+    told_after (g.faults old) (g.faults old) (g.faults new) files fs [] x rest (with_bytes [] (read_in files fs)) (omega arith) e refl (told_as g old new files fs rest tells may)
 told_as g old new files (Some f ∷ fs) x tells (inl (inl rose, e)) = inr (f.name, e, rose)
 told_as g old new files (Some f ∷ fs) x tells (inl (inr lacks, e)) =
     let none : files f.name ≡ None = subst (λ o. Lacks o f.name) tells lacks in
@@ -140,15 +140,15 @@ told_as g old new files (Some f ∷ fs) x tells (inr (bytes, mid, read, inl (lon
     inl (e ∙ sym (front_long f (files f.name) bytes (read_in files fs) front long))
 told_as g old new files (Some f ∷ fs) x tells (inr (bytes, mid, read, inr (short, (rest, may, e)))) =
     let front : IsFrontOf (files f.name) (limit_of f.limit) bytes = subst (λ o. IsRead o f.name (limit_of f.limit) bytes) tells read.told in
-    told_behind (g.faults old) (g.faults mid) (g.faults new) files fs bytes x rest (read_before f (files f.name) (read_in files fs)) read.counted e
+    told_after (g.faults old) (g.faults mid) (g.faults new) files fs bytes x rest (read_before f (files f.name) (read_in files fs)) read.counted e
     (sym (front_short f (files f.name) bytes (read_in files fs) front short)) (told_as g mid new files fs rest (read.kept ∙ tells) may)
 
 -- ---- a file that wasn't read
 
-unread_behind : (name bytes : List ℕ) (rest : Read) → unread name ≡ with_bytes bytes rest → rest ≡ unread name
-unread_behind name bytes (had contents) e = cc
-unread_behind name bytes (unread other) e = sym e
-unread_behind name bytes (too_long other n) e = cc
+unread_after : (name bytes : List ℕ) (rest : Read) → unread name ≡ with_bytes bytes rest → rest ≡ unread name
+unread_after name bytes (had contents) e = cc
+unread_after name bytes (unread other) e = sym e
+unread_after name bytes (too_long other n) e = cc
 
 same_name : (a b : List ℕ) → unread a ≡ unread b → a ≡ b
 same_name a b e = cc
@@ -160,11 +160,11 @@ long_unread name other n e = cc
 pub may_fail : {S : Type 0} (g : Ghosts S) (old new : S) (fs : List (Option Source)) (name : List ℕ) → MayRead g old new fs (unread name)
     → MayFail (g.files old) name (g.faults old) (g.faults new)
 may_fail g old new [] name (same, e) = absurd (had_unread [] name (sym e))
-may_fail g old new (None ∷ fs) name (rest, may, e) = may_fail g old new fs name (subst (MayRead g old new fs) (unread_behind name [] rest e) may)
+may_fail g old new (None ∷ fs) name (rest, may, e) = may_fail g old new fs name (subst (MayRead g old new fs) (unread_after name [] rest e) may)
 may_fail g old new (Some f ∷ fs) name (inl (fails, e)) = subst (λ n. MayFail (g.files old) n (g.faults old) (g.faults new)) (sym (same_name name f.name e)) fails
 may_fail g old new (Some f ∷ fs) name (inr (bytes, mid, read, inl (long, same, e))) = absurd (long_unread name f.name f.limit e)
 may_fail g old new (Some f ∷ fs) name (inr (bytes, mid, read, inr (short, (rest, may, e)))) =
-    earlier (may_fail g mid new fs name (subst (MayRead g mid new fs) (unread_behind name bytes rest e) may))
+    earlier (may_fail g mid new fs name (subst (MayRead g mid new fs) (unread_after name bytes rest e) may))
   where
     earlier : MayFail (g.files mid) name (g.faults mid) (g.faults new) → MayFail (g.files old) name (g.faults old) (g.faults new)
     earlier (inl rose) = inl (rose_after (g.faults old) (g.faults mid) (g.faults new) read.counted rose)

@@ -23,7 +23,7 @@ use Rattle.vlt_interp.specs.Runs.Ends.{IsTooWide, EndsGiven, EndsAs}
 use Rattle.vlt_sound.specs.Promise.{NeverGoesWrong}
 use Rattle.vaultc_core.specs.declared.status.TheConstants.{UNREAD, SINK_FAILED, NO_MEMORY}
 use Rattle.vaultc_core.specs.Finishes.{Finishes}
-use Rattle.vaultc_core.specs.Lines.{Reply, over_reply, numbers_reply, behind}
+use Rattle.vaultc_core.specs.Lines.{Reply, over_reply, numbers_reply, following}
 use Rattle.vaultc_core.specs.Runs.{last_of, IsReplyOverNumbers, IsReplyToProgram}
 use Rattle.vaultc_core.specs.Shown.{EndsRun}
 use Rattle.vaultc_core.proofs.Ended.{Says, cut_off, came_to_end}
@@ -59,7 +59,7 @@ line_alone g Replies old mid new result last same is inside f =
 pub not_sink_fault : Memory ≡ Stopped SinkFault → ⊥
 not_sink_fault e = cc
 
--- memory was wanting, and nothing was written
+-- memory ran out, and nothing was written
 memory_wanting : {K : Type 0} (g : Ghosts K) (Replies : Reply → Type 0) (old mid new : K) (result : ℕ) → IsUntouched (seen g old) (seen g mid)
     → EndsRun g Memory mid new result → Finishes g Replies old new result
 memory_wanting g Replies old mid new result same (stays, inl (three, cut)) = absurd (not_sink_fault cut)
@@ -91,7 +91,7 @@ ran_says : (p : Program) (input : List ℤ) (answers : List (List ℤ)) (b : Bud
 ran_says p input answers b last fits of =
     let ran = meaning.run p b.fuel b.heap b.depth input answers in
     record {
-      replies = λ r same. inr (fits, (last, of, ap (behind (event_text ran.world.events)) same));
+      replies = λ r same. inr (fits, (last, of, ap (following (event_text ran.world.events)) same));
       inside = λ r same. subst (λ q. q.status ≢ UNREAD) (sym same) (own_outcome ran.outcome last of).1;
       some = (last, refl);
     }
@@ -142,7 +142,7 @@ over_numbers g p input answers b old mid new Memory result never same f =
 
 -- ---- the files of numbers
 
--- a bad line is told, or memory was wanting
+-- a bad line is told, or memory ran out
 refused : {K : Type 0} (g : Ghosts K) (Replies : Reply → Type 0) (old mid new : K) (refusal end : RunEnd Stop) (result : ℕ) (last : Reply) → Replies last → last.status ≢ UNREAD
     → (EndsRun g refusal mid new result → Finishes g (λ r. r ≡ last) mid new result)
     → IsRefusal refusal (seen g old) (seen g mid) end → EndsRun g end mid new result → Finishes g Replies old new result

@@ -20,12 +20,12 @@ no_value (w ∷ v ∷ ws) s some few = absurd (omega (arith, few))
 pub one_more : {T : Type 0} (f : T → List ℕ) (ws rest : List T) (s next : Settings) (o v : T) (option value : List ℕ) (r : Option Settings) → 2 ≤ length ws
     → o ≡ get_or ws 0 o → v ≡ get_or ws 1 v → option ≡ f o → value ≡ f v → option_and_then (with_setting s) (setting_of option value) ≡ Some next
     → rest ≡ take (length ws - 2) (drop 2 ws) → r ≡ settings_of (map f rest) next → r ≡ settings_of (map f ws) s
-one_more f [] rest s next o v option value r two is_o is_v is_option is_value took behind more = absurd (omega (arith, two))
-one_more f (a ∷ []) rest s next o v option value r two is_o is_v is_option is_value took behind more = absurd (omega (arith, two))
-one_more f (a ∷ b ∷ ws) rest s next o v option value r two is_o is_v is_option is_value took behind more =
+one_more f [] rest s next o v option value r two is_o is_v is_option is_value took following more = absurd (omega (arith, two))
+one_more f (a ∷ []) rest s next o v option value r two is_o is_v is_option is_value took following more = absurd (omega (arith, two))
+one_more f (a ∷ b ∷ ws) rest s next o v option value r two is_o is_v is_option is_value took following more =
     let first : option ≡ f a = is_option ∙ ap f is_o in
     let second : value ≡ f b = is_value ∙ ap f is_v in
     let same : option_and_then (with_setting s) (setting_of (f a) (f b)) ≡ Some next =
     sym (ap₂ (λ x y. option_and_then (with_setting s) (setting_of x y)) first second) ∙ took in
-    let all : rest ≡ ws = behind ∙ take_all (length (a ∷ b ∷ ws) - 2) ws (omega arith) in
+    let all : rest ≡ ws = following ∙ take_all (length (a ∷ b ∷ ws) - 2) ws (omega arith) in
     more ∙ ap (λ l. settings_of (map f l) next) all ∙ sym (ap (option_and_then (settings_of (map f ws))) same)

@@ -17,7 +17,7 @@ use Rattle.vlt_verdict.specs.Laws.{HasOneVerdict}
 use Rattle.vlt_verdict.specs.Verdicts as verdict
 use Rattle.vaultc_core.specs.Commands.{Command, check, explain, run, fmt, emit, verify, crun, load, host, modules, link}
 use Rattle.vaultc_core.specs.Sources.{Read, had, unread, too_long, sources_of, read_in, bytes_at}
-use Rattle.vaultc_core.specs.Lines.{Reply, reply, behind}
+use Rattle.vaultc_core.specs.Lines.{Reply, reply, following}
 use Rattle.vaultc_core.specs.Texts.{IsTextOf, refusal_reply}
 use Rattle.vaultc_core.specs.declared.status.TheConstants.{NOT_ACCEPTED}
 use Rattle.vaultc_core.specs.Verdicts.{check_reply, IsExplained}
@@ -45,7 +45,7 @@ same_last r q e = cc
 
 one_of_ran : (ran : Ran) (r q : Reply) → IsReplyToRan ran r → IsReplyToRan ran q → r ≡ q
 one_of_ran ran r q (k, of_k, is_r) (l, of_l, is_q) =
-    is_r ∙ ap (behind (event_text ran.world.events)) (same_last k l (sym of_k ∙ of_l)) ∙ sym is_q
+    is_r ∙ ap (following (event_text ran.world.events)) (same_last k l (sym of_k ∙ of_l)) ∙ sym is_q
 
 one_over_numbers : (p : Program) (input : List ℤ) (answers : List (List ℤ)) (b : Budgets) (r q : Reply) →
     IsReplyOverNumbers p input answers b r → IsReplyOverNumbers p input answers b q → r ≡ q
@@ -61,7 +61,7 @@ one_of_program p (bad_answers line) b r q x y = x ∙ sym y
 
 one_of_host_ran : (ran : HostRan) (r q : Reply) → IsReplyToHostRan ran r → IsReplyToHostRan ran q → r ≡ q
 one_of_host_ran ran r q (k, of_k, is_r) (l, of_l, is_q) =
-    is_r ∙ ap (behind ran.text) (same_last k l (sym of_k ∙ of_l)) ∙ sym is_q
+    is_r ∙ ap (following ran.text) (same_last k l (sym of_k ∙ of_l)) ∙ sym is_q
 
 one_of_calls_over : (p : Program) (calls : List HostCall) (input : List ℤ) (answers : List (List ℤ)) (b : Budgets) (r q : Reply) →
     IsReplyToCallsOver p calls input answers b r → IsReplyToCallsOver p calls input answers b q → r ≡ q

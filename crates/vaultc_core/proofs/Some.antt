@@ -31,7 +31,7 @@ use Rattle.vlt_verdict.specs.Laws.{HasSomeVerdict}
 use Rattle.vlt_check_laws.specs.Shown.{HasWitness}
 use Rattle.vaultc_core.specs.declared.status.TheConstants.{DONE}
 use Rattle.vaultc_core.specs.Commands.{Command, check, explain, run, fmt, emit, verify, crun, load, host, modules, link, names_files}
-use Rattle.vaultc_core.specs.Lines.{Reply, reply, over_reply, long_reply, unread_reply, numbers_reply, behind}
+use Rattle.vaultc_core.specs.Lines.{Reply, reply, over_reply, long_reply, unread_reply, numbers_reply, following}
 use Rattle.vaultc_core.specs.Runs.{IsReplyToRan, IsReplyOverNumbers, IsReplyToProgram}
 use Rattle.vaultc_core.specs.HostRuns.{IsReplyToHostRan, IsReplyToCallsOver, IsReplyToCalls, IsReplyToHost}
 use Rattle.vaultc_core.specs.Sources.{had, unread, too_long, bytes_at}
@@ -78,7 +78,7 @@ wide_or_not : (p : Program) (b : Budgets) → IsTooWide p b ⊎ (IsTooWide p b �
 wide_or_not p b = over_or_not (limit_of VALUE_SLOTS) (slots_needed p b.depth b.heap)
 
 of_ran : (ran : Ran) → is_fault ran.outcome ≡ false → (r : Reply) × IsReplyToRan ran r
-of_ran ran right = let last = last_there ran.outcome right in (behind (event_text ran.world.events) last.0, (last.0, last.1, refl))
+of_ran ran right = let last = last_there ran.outcome right in (following (event_text ran.world.events) last.0, (last.0, last.1, refl))
 
 over_numbers : (p : Program) (input : List ℤ) (answers : List (List ℤ)) (b : Budgets) → NeverGoesWrong p → (r : Reply) × IsReplyOverNumbers p input answers b r
 over_numbers p input answers b never = ⊎_elim
@@ -97,7 +97,7 @@ wide_for_host_or_not : (p : Program) (b : Budgets) → IsTooWideForHost p b ⊎ 
 wide_for_host_or_not p b = over_or_not (limit_of VALUE_SLOTS) (slots_needed_by_host p b.depth b.heap)
 
 of_host_ran : (ran : HostRan) → is_host_fault ran.outcome ≡ false → (r : Reply) × IsReplyToHostRan ran r
-of_host_ran ran right = let last = host_last_there ran.outcome right in (behind ran.text last.0, (last.0, last.1, refl))
+of_host_ran ran right = let last = host_last_there ran.outcome right in (following ran.text last.0, (last.0, last.1, refl))
 
 of_calls_over : (p : Program) (calls : List HostCall) (input : List ℤ) (answers : List (List ℤ)) (b : Budgets) → NeverGoesWrongForHosts p → (r : Reply) × IsReplyToCallsOver p calls input answers b r
 of_calls_over p calls input answers b never = ⊎_elim

@@ -57,7 +57,7 @@ of_sound g old new None files r tells sound is = is
 of_sound g old new (Some command) files r tells sound (x, may, is) =
     of_sound_read command (g.faults old) (g.faults new) files x r sound (told_as g old new files (sources_of command) x tells may) is
 
--- where nothing fails, a reply to the files is written whole, unless memory is wanting
+-- where nothing fails, a reply to the files is written whole, unless memory runs out
 pub no_fault : {S K : Type 0} (g : Ghosts S) (k : sink.Ghosts K) (old new : S) (before after : K) (command : Option Command) (status : ℕ) (files : Files)
     → Finishes k (MayReply g old new command) before after status → g.files old ≡ Some files
     → (Rose (g.faults old) (g.faults new) → ⊥) → (Rose (k.faults before) (k.faults after) → ⊥)

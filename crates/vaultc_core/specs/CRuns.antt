@@ -11,7 +11,7 @@ use Rattle.c_interp.specs.declared.runs.end.CEnd.{CEnd}
 use Rattle.c_interp.specs.declared.runs.end.CEnd.TheVariants.{Unread, Ended}
 use Rattle.c_interp.specs.Runs.Ends.{EndsAs}
 use Rattle.vaultc_core.specs.declared.status.TheConstants.{NO_TEXT, UNDEFINED}
-use Rattle.vaultc_core.specs.Lines.{Reply, reply, over_reply, place_reply, behind}
+use Rattle.vaultc_core.specs.Lines.{Reply, reply, over_reply, place_reply, following}
 use Rattle.vaultc_core.specs.Runs.{stop_line, end_line}
 
 -- ---- the last line of each end, with the status
@@ -52,4 +52,4 @@ pub record IsReplyToC (text input answers : List ℕ) (b : Budgets) (r : Reply) 
   pub ends : EndsAs text input answers b (took []) (took events) end
   pub last : Reply
   pub last_is : end_reply text end ≡ Some last
-  pub whole : r ≡ behind events last
+  pub whole : r ≡ following events last

@@ -19,8 +19,8 @@ WrotePart g Replies old new =
 abbrev pub Inside : (Reply → Type 0) → Reply → Type 0
 Inside Replies r = Replies r × (r.status ≢ UNREAD)
 
--- A status, with the sink before and after: a reply of that status was written whole; or the sink failed, or memory was
--- wanting, and no more than a part of a reply was.
+-- A status, with the sink before and after: a reply of that status was written whole; or the sink failed, or memory ran
+-- out, and no more than a part of a reply was.
 pub record Finishes {K : Type 0} (g : Ghosts K) (Replies : Reply → Type 0) (old new : K) (status : ℕ) : Type 0 where
   pub whole : status ≢ SINK_FAILED → status ≢ NO_MEMORY → WroteReply g Replies old new status
   pub failed : status ≡ SINK_FAILED → Rose (g.faults old) (g.faults new)

@@ -10,7 +10,7 @@ use Rattle.vlt_host_meaning.specs.HostRun.{HostOutcome, ended, bad_call, HostRan
 use Rattle.vlt_host.specs.Runs.Ends.{IsTooWideForHost, host_outcome_of}
 use Rattle.vlt_host.specs.declared.runs.stop.HostStop.{HostStop}
 use Rattle.vaultc_core.specs.declared.status.TheConstants.{OUT_OF_NUMBERS}
-use Rattle.vaultc_core.specs.Lines.{Reply, reply, over_reply, numbers_reply, bad_call_line, behind}
+use Rattle.vaultc_core.specs.Lines.{Reply, reply, over_reply, numbers_reply, bad_call_line, following}
 use Rattle.vaultc_core.specs.Runs.{last_of}
 
 abbrev pub bad_call_reply : (position : ℕ) → Reply
@@ -31,7 +31,7 @@ host_stop_line stop = option_and_then host_last_of (host_outcome_of stop)
 
 -- the text of the calls and their events, and then the last line of the outcome
 abbrev pub IsReplyToHostRan : HostRan → Reply → Type 0
-IsReplyToHostRan ran r = (last : Reply) × (host_last_of ran.outcome ≡ Some last) × (r ≡ behind ran.text last)
+IsReplyToHostRan ran r = (last : Reply) × (host_last_of ran.outcome ≡ Some last) × (r ≡ following ran.text last)
 
 -- over input numbers and answers; the frames and objects of the budgets may not fit into a machine
 abbrev pub IsReplyToCallsOver : Program → List HostCall → (input : List ℤ) → (answers : List (List ℤ)) → Budgets → Reply → Type 0

@@ -73,5 +73,5 @@ abbrev pub bad_call_line : ℕ → List ℕ
 bad_call_line n = codes "call " ++ decimal n ++ codes " bad\n"
 
 -- the text of the events, and then the last line
-abbrev pub behind : (events : List ℕ) → Reply → Reply
-behind events last = reply last.status (events ++ last.text)
+abbrev pub following : (events : List ℕ) → Reply → Reply
+following events last = reply last.status (events ++ last.text)

@@ -13,7 +13,7 @@ use Rattle.vlt_steps.specs.declared.end.RunEnd.TheVariants.{BadInput, BadAnswers
 use Rattle.vlt_acts.specs.Hosts.Stops.{outcome_of}
 use Rattle.vlt_interp.specs.Runs.Ends.{IsTooWide}
 use Rattle.vaultc_core.specs.declared.status.TheConstants.{DONE, TRAPPED, OUT_OF_BUDGET, OUT_OF_NUMBERS}
-use Rattle.vaultc_core.specs.Lines.{Reply, reply, over_reply, trap_line, numbers_reply, bad_answer_line, behind}
+use Rattle.vaultc_core.specs.Lines.{Reply, reply, over_reply, trap_line, numbers_reply, bad_answer_line, following}
 
 -- the last line of each outcome, with the status; a fault has none, and no run of an accepted program ends in one
 abbrev pub last_of : Outcome → Option Reply
@@ -41,7 +41,7 @@ end_line line_of Memory = None
 
 -- the text of a run's events, and then the last line of its outcome
 abbrev pub IsReplyToRan : Ran → Reply → Type 0
-IsReplyToRan ran r = (last : Reply) × (last_of ran.outcome ≡ Some last) × (r ≡ behind (event_text ran.world.events) last)
+IsReplyToRan ran r = (last : Reply) × (last_of ran.outcome ≡ Some last) × (r ≡ following (event_text ran.world.events) last)
 
 -- over input numbers and answers; the frames and objects of the budgets may not fit into a machine
 abbrev pub IsReplyOverNumbers : Program → (input : List ℤ) → (answers : List (List ℤ)) → Budgets → Reply → Type 0

@@ -156,7 +156,7 @@ StopsRun g stop old new status = MatchOption (stop_line stop)
     ((new ≡ old) × ((status ≡ SINK_FAILED) × (stop ≡ SinkFault)))
     (λ last. Finishes g (λ r. r ≡ last) old new status)
 
--- the same by an end; nothing is written either where memory was wanting
+-- the same by an end; nothing is written either where memory ran out
 abbrev pub EndsRun : {K : Type 0} (g : Ghosts K) → RunEnd Stop → (old new : K) → (status : ℕ) → Type 0
 EndsRun g e old new status = MatchOption (end_line stop_line e)
     ((new ≡ old) × (((status ≡ SINK_FAILED) × (e ≡ end.Stopped SinkFault)) ⊎ (status ≡ NO_MEMORY)))
@@ -202,7 +202,7 @@ StopsC g stop old new status = MatchOption (stop_reply stop)
     ((new ≡ old) × ((status ≡ SINK_FAILED) × (stop ≡ Stopped SinkFault)))
     (λ last. Finishes g (λ r. r ≡ last) old new status)
 
--- the same by an end; nothing is written either where memory was wanting
+-- the same by an end; nothing is written either where memory ran out
 abbrev pub EndsC : {K : Type 0} (g : Ghosts K) → (text : List ℕ) → CEnd → (old new : K) → (status : ℕ) → Type 0
 EndsC g text e old new status = MatchOption (end_reply text e)
     ((new ≡ old) × (((status ≡ SINK_FAILED) × (e ≡ ended.Ended (end.Stopped (Stopped SinkFault)))) ⊎ (status ≡ NO_MEMORY)))

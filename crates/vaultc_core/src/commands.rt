@@ -1,13 +1,12 @@
 //! Carries out the commands.
 
-ghost use Rattle.std.specs.Prelude.{◌≡◌, ◌≢◌, List, ℕ, map, None, Some, IfOk, IfSome, IfNone, false, string_bytes};
+ghost use Rattle.std.specs.Prelude.{◌≡◌, ◌≢◌, List, ℕ, map, None, Some, IfOk, string_bytes};
 ghost use Rattle.vlt_base.specs.declared.limits.TheConstants.{SOURCE_BYTES};
 ghost use Rattle.vlt_core.specs.View.{program_of};
 ghost use Rattle.vlt_syntax.specs.View.{tree_of};
 ghost use Rattle.vlt_verdict.specs.FitLaws.Fit.{IsTextTree};
 ghost use Rattle.vlt_numbers.specs.Given.Given.{given_by};
 ghost use Rattle.vlt_verdict.specs.Seen.{IsTellable};
-ghost use Rattle.vlt_verdict.specs.declared.Verdict.TheVariants.{Accepted};
 ghost use Rattle.vlt_interp.specs.Reached.{IsRunnable};
 ghost use Rattle.vaultc_core.specs.Callable.{IsRunnableForHosts};
 ghost use Rattle.vaultc_core.specs.Commands as c;
@@ -16,7 +15,7 @@ ghost use Rattle.vaultc_core.specs.Texts.{IsTooLong, IsTextOf};
 ghost use Rattle.vaultc_core.specs.Replies.{IsReplyToText, IsReplyToRunText, MayReply};
 ghost use Rattle.vaultc_core.specs.Finishes.{Finishes};
 ghost use Rattle.vaultc_core.specs.View.{seen_command, seen_taken, seen_text};
-ghost use Rattle.vaultc_core.specs.Shown.{AreShort, IsJudged, IsReplyToCaller, IsShortCaller, is_accepted, shown_reply, AreShortModules, AreShortLinked};
+ghost use Rattle.vaultc_core.specs.Shown.{AreShort, IsJudged, IsReplyToCaller, IsShortCaller, shown_reply, AreShortModules, AreShortLinked};
 ghost use Rattle.vaultc_core.specs.Modules.{file_with, IsReplyToModule, IsReplyToLink};
 
 use crate::c_runs::run_c;

@@ -1,7 +1,6 @@
 //! A sink that keeps what is written to it.
 
-ghost use Rattle.std.specs.Prelude.{◌≡◌, ◌≤◌, [], Some, OnOk, OnErr};
-ghost use Rattle.vlt_io.specs.Outside.{Rose, Grew, GrewByPart};
+ghost use Rattle.std.specs.Prelude.{◌≡◌, ◌≤◌, [], Some};
 
 use std::alloc::Global;
 use vlt_io::{Sink, SinkFailed};

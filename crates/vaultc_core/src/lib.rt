@@ -3,7 +3,7 @@
 //! Used by: the program `vaultc`. Its clause `promised` stands on `vlt_sound::accepted_programs_go_right`.
 #![tactic(auto)]
 
-ghost use Rattle.std.specs.Prelude.{◌≡◌, ◌⊎◌, ℕ, List, Option, None, Some, [], map, string_bytes};
+ghost use Rattle.std.specs.Prelude.{◌≡◌, ◌⊎◌, ℕ, List, None, Some, [], map, string_bytes};
 ghost use Rattle.vlt_core.specs.Core.{Program};
 ghost use Rattle.vlt_core.specs.Derives.{IsAccepted};
 ghost use Rattle.vlt_io.specs.Outside.{Files, Rose, Grew, GrewByPart};

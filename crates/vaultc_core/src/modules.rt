@@ -7,17 +7,15 @@ ghost use Rattle.vlt_core.specs.View.{program_of};
 ghost use Rattle.vlt_check.specs.Checks.{fault_of};
 ghost use Rattle.vlt_iface.specs.Told.{place_of, view_told, joined_told};
 ghost use Rattle.vlt_iface.specs.Seen.{view_seen};
-ghost use Rattle.vlt_reports.specs.Reports.{kind_line, fault_line};
+ghost use Rattle.vlt_reports.specs.Reports.{kind_line};
 ghost use Rattle.vlt_verdict.specs.Seen.{IsFaultyFunction, IsSeenAs, IsTellable};
 ghost use Rattle.vlt_verdict.specs.Verdicts as v;
 ghost use Rattle.vlt_verdict.specs.declared.Verdict.TheVariants.{Accepted};
 ghost use Rattle.vlt_link_laws.specs.Link.{IsAcceptedText};
 ghost use Rattle.vaultc_core.specs.declared.status.TheConstants as s;
-ghost use Rattle.vaultc_core.specs.Emitted.{IsEmitted};
 ghost use Rattle.vaultc_core.specs.Lines as l;
 ghost use Rattle.vaultc_core.specs.Modules as m;
 ghost use Rattle.vaultc_core.specs.ModuleSteps.{HasNoView, IsParsed, IsRefusedText, IsShort, IsTested, IsUntested, Replies, file_seen};
-ghost use Rattle.vaultc_core.specs.Compilable.{IsCompilable};
 ghost use Rattle.vaultc_core.specs.Shown.{shown_reply};
 
 use crate::emit::emitted;

@@ -12,7 +12,7 @@ pub const UNREAD: u8 = 2;
 /// The sink failed.
 pub const SINK_FAILED: u8 = 3;
 
-/// Memory was wanting.
+/// Memory ran out.
 pub const NO_MEMORY: u8 = 4;
 
 /// There is more of something than a limit allows.

@@ -1,6 +1,6 @@
 //! From a C file to what `verify` says of it.
 
-ghost use Rattle.std.specs.Prelude.{◌≡◌, ◌<◌, ◌-◌, ◌^◌, ◌++◌, Some, length, codes, IfOk, IfSome, option_map};
+ghost use Rattle.std.specs.Prelude.{◌≡◌, ◌<◌, ◌-◌, ◌^◌, ◌++◌, Some, length, IfOk, IfSome, option_map};
 ghost use Rattle.cert_verify.specs.Outcomes.{refusal_of};
 ghost use Rattle.cert_verify.specs.Refusals.{IsRefusal};
 ghost use Rattle.vaultc_core.specs.Verifying.{refused_reply, refused_at_reply, unverified_reply, IsReplyToVerify};

@@ -10,7 +10,7 @@ const TURN: char = '#';
 /// What stands before `n` for a line's end, and before `x` for a byte that no text has.
 const ESCAPE: char = '\\';
 
-/// Appends what stands for itself in no line, and gives the text behind it.
+/// Appends what stands for itself in no line, and gives the text after it.
 fn push_escaped<'a>(bytes: &mut Vec<u8>, text: &'a str) -> io::Result<&'a str> {
     let (byte, rest) = if let Some(rest) = text.strip_prefix("n") {
         (b'\n', rest)

@@ -1,4 +1,4 @@
-//! Statements without blocks, over the slots of the running frame and the heap; the tables behind them, or a trap, out.
+//! Statements without blocks, over the slots of the running frame and the heap; the tables after them, or a trap, out.
 //! Read `vlt_meaning/specs/Run.antt` (does_simple) first, then `specs/Acts/Acts.antt`: what a statement comes to in the tables.
 //! Used by: the machine of runs, `vlt_interp`.
 

@@ -25,7 +25,7 @@ fn line(text: &[u8], at: u32) -> u32
     line
 }
 
-/// One more than the bytes behind the last line feed before a position.
+/// One more than the bytes after the last line feed before a position.
 fn column(text: &[u8], at: u32) -> u32
     requires size { length text.now < 2 ^ 32 - 1 }
     requires within { at ≤ length text.now }

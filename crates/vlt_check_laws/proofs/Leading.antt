@@ -25,7 +25,7 @@ pub record Source (t : Tok) (rs : List Row) (S : Ones) (q : One) : Type 0 where
 pub source : (t : Tok) (rs : List Row) (S : Ones) (q : One) → images t rs S q → Source t rs S q
 source t rs S q w = let z = (smooth_images t rs).one S q w in record { start = z.0; comes = z.1; leads = z.2 }
 
--- Turns behind turns: K says what comes behind so many.
+-- Turns after turns: K says what comes after so many.
 pub record Grows (t : Tok) (rs : List Row) (s : Block) (at : ℕ) (K : ℕ → One → List Choice → Type 0) : Type 0 where
   pub more : (j : ℕ) (o m r : One) (es fs : List Choice) → LeadsOn t rs o m →
       (ThroughBlock t s m es to_next r fs ⊎ ThroughBlock t s m es to_continue r fs) → K j r fs → K (suc j) o (choice at turn ∷ es)

@@ -50,7 +50,7 @@ module _ (R : Row → Ones → Type 0) (J : Ones → Type 0) (P : (at : ℕ) →
     fact = f z.start (refl, z.met);
   }
 
-  -- a way to the next statement, with the join behind it
+  -- a way to the next statement, with the join after it
   join_path : (s : Flow) (at : ℕ) (q : Spot) (S : Ones) → IsTame s → (p ≡ q) × J (out t s S to_next) →
       Path S (λ o cs. JoinMet P Q t q (Through t at s) o cs)
   join_path s at q S j x =

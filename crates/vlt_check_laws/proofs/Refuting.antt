@@ -84,7 +84,7 @@ module _ (t : Tok) (place : ℕ) (w : Wanted) where
         (λ z. body s (k + 1 + length rs) a (Some n) (n + 1) (map_after rs i) z.0 z.2.0 (passed_has t rs i q z.0 here z.1) d.3 z.2.2)) y.1.1.2)
         (λ y. y.2) x
     form (switch rs arms end) at k a l n h o cs p d x = ⊎_elim (λ y. rows at rs h o p d.0 y.1) (⊎_elim
-        (λ y. ways arms at (k + length rs) y.2.0 a l (n + 1) (map_after rs h) (a.behind n) y.0 y.2.1.0 (passed_has t rs h o y.0 p y.1) d.1 y.2.1.2)
+        (λ y. ways arms at (k + length rs) y.2.0 a l (n + 1) (map_after rs h) (a.following n) y.0 y.2.1.0 (passed_has t rs h o y.0 p y.1) d.1 y.2.1.2)
         (λ y. y.2)) x
     form (scope s) at k a l n h o cs p d x = body s k a l (n + 1) h o cs p d x
     form (focus rs s es) at k a l n h o cs p d x = ⊎_elim (λ y. rows at rs h o p d.0 y.1) (⊎_elim

@@ -11,7 +11,7 @@ use Rattle.vlt_core.specs.Found.{One, one_absent, Ones, Has, WantsOne, image, im
 -- ---- rows and joins
 
 -- A row, or a join. Its class is 0 for the head of a loop, 1 for a row and 2 for another join. Its number counts the rows
--- and joins of a function in the order of the text: the head of a loop before the loop, another join behind what it joins.
+-- and joins of a function in the order of the text: the head of a loop before the loop, another join after what it joins.
 pub record Spot : Type 0 where
   pub at : ℕ
   pub class : ℕ

@@ -7,16 +7,16 @@ mutual
   pub data Flow : Type 0 where
     -- a statement without blocks that goes on to the next one
     step : List Row → Flow
-    -- two arms behind the rows of a condition, and a body that is come to again
+    -- two arms after the rows of a condition, and a body that is come to again
     choose : List Row → Block → Block → Flow
     loop : List Row → Block → Flow
     -- arms, with the place of the closing brace
     switch : List Row → Arms → (end : ℕ) → Flow
     scope : Block → Flow
-    -- rows before the body and behind it
+    -- rows before the body and after it
     focus : List Row → Block → List Row → Flow
     return : List Row → Flow
-    -- to the head of the loop around, or behind it; with the tokens of the scopes that are left
+    -- to the head of the loop around, or after it; with the tokens of the scopes that are left
     jump : (continues : Bool) → (left : List Tok) → Flow
 
   -- statements, the tokens that they bind, and the place of the closing brace
@@ -52,7 +52,7 @@ abbrev mutual
   size_arms no_arms = 0
   size_arms (arm rs b rest) = size_block b + size_arms rest
 
--- whether something can come behind a statement
+-- whether something can come after a statement
 abbrev mutual
   pub passes : Flow → Bool
   passes (step rs) = true

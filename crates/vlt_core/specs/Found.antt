@@ -49,7 +49,7 @@ abbrev pub image_if : Bool → Row → Ones → Ones
 image_if true r S q = (o : One) × S o × WantsOne r.wanted o × LeftBy r.after o q
 image_if false r S q = S q
 
--- behind a row
+-- after a row
 abbrev pub image : Tok → Row → Ones → Ones
 image t r S q = image_if (is_tok t r.tok) r S q
 
@@ -73,7 +73,7 @@ heads F S o = (n : ℕ) × turns F n S o
 
 -- ---- statements
 
--- where a path comes out of a statement: to the next one, behind the loop around, or at its head
+-- where a path comes out of a statement: to the next one, after the loop around, or at its head
 pub data Exit : Type 0 where
   to_next : Exit
   to_break : Exit

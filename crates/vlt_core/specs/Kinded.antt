@@ -27,7 +27,7 @@ parts_broken p =
     flat_map (λ q. type_rows p q.0 q.1) (enumerate_from 0 p.types) ++
     flat_map (function_rows p) (enumerate_from 0 p.fns)
 
--- what each row of a program breaks: the first row stands for the whole, and behind it come the parts
+-- what each row of a program breaks: the first row stands for the whole, and after it come the parts
 abbrev pub rows_broken : Program → List Rules
 rows_broken p = unless (has_main p) rule.NO_MAIN ∷ parts_broken p
 

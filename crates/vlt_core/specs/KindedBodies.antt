@@ -15,7 +15,7 @@ use Rattle.vlt_core.specs.KindedCalls.{with_call_target, call_broken, return_bro
 
 -- ---- statements that end
 
--- nothing comes behind the statement
+-- nothing comes after the statement
 abbrev mutual
   pub ends : Form → Bool
   ends (return value) = true
@@ -107,33 +107,33 @@ with_focus f z ids = with_var f z (with_key f (own_key f z) ids)
 
 module _ (p : Program) (f : Func) where
   abbrev mutual
-    -- what is in scope behind a statement
-    pub ids_behind : Form → Ids → Ids
-    ids_behind (simple s) ids = ids_after f s ids
-    ids_behind (call g target keys args) ids = with_call_target f (slice_get p.fns g) target ids
-    ids_behind (choose e a b) ids = ids_behind_block b (ids_behind_block a ids)
-    ids_behind (loop e b) ids = ids_behind_block b ids
-    ids_behind (switch v arms end) ids = ids_behind_arms arms ids
-    ids_behind (focus y z b) ids = left_behind ids (ids_behind_block b (with_focus f z ids))
-    ids_behind (scope b) ids = ids_behind_block b ids
-    ids_behind (return value) ids = ids
-    ids_behind (jump continues) ids = ids
+    -- what is in scope after a statement
+    pub ids_following : Form → Ids → Ids
+    ids_following (simple s) ids = ids_after f s ids
+    ids_following (call g target keys args) ids = with_call_target f (slice_get p.fns g) target ids
+    ids_following (choose e a b) ids = ids_following_block b (ids_following_block a ids)
+    ids_following (loop e b) ids = ids_following_block b ids
+    ids_following (switch v arms end) ids = ids_following_arms arms ids
+    ids_following (focus y z b) ids = left_behind ids (ids_following_block b (with_focus f z ids))
+    ids_following (scope b) ids = ids_following_block b ids
+    ids_following (return value) ids = ids
+    ids_following (jump continues) ids = ids
 
-    pub ids_behind_block : Block → Ids → Ids
-    ids_behind_block (block ss bound end) ids = left_behind ids (ids_behind_stmts ss (at_block_start ids))
+    pub ids_following_block : Block → Ids → Ids
+    ids_following_block (block ss bound end) ids = left_behind ids (ids_following_stmts ss (at_block_start ids))
 
-    pub ids_behind_stmts : Stmts → Ids → Ids
-    ids_behind_stmts done ids = ids
-    ids_behind_stmts (next at s rest) ids = ids_behind_stmts rest (ids_behind s ids)
+    pub ids_following_stmts : Stmts → Ids → Ids
+    ids_following_stmts done ids = ids
+    ids_following_stmts (next at s rest) ids = ids_following_stmts rest (ids_following s ids)
 
-    pub ids_behind_arms : Arms → Ids → Ids
-    ids_behind_arms no_arms ids = ids
-    ids_behind_arms (arm c vs b rest) ids = ids_behind_arms rest (left_behind ids (ids_behind_block b (with_vars f vs ids)))
+    pub ids_following_arms : Arms → Ids → Ids
+    ids_following_arms no_arms ids = ids
+    ids_following_arms (arm c vs b rest) ids = ids_following_arms rest (left_behind ids (ids_following_block b (with_vars f vs ids)))
 
   -- what a block's list breaks, which begins with the tokens `extra`
   abbrev pub list_broken : (extra : List Tok) → Ids → Block → Rules
   list_broken extra ids (block ss bound end) =
-      tokens_broken f bound (extra ++ (ids_behind_stmts ss (at_block_start ids)).bound)
+      tokens_broken f bound (extra ++ (ids_following_stmts ss (at_block_start ids)).bound)
 
   abbrev mutual
     pub arms_broken : Ids → (v : ℕ) → Arms → Rules
@@ -141,14 +141,14 @@ module _ (p : Program) (f : Func) where
     arms_broken ids v (arm c vs b rest) =
         arm_broken p f ids v c vs ++
         list_broken (owning_toks f vs) (with_vars f vs ids) b ++
-        arms_broken (left_behind ids (ids_behind_block b (with_vars f vs ids))) v rest
+        arms_broken (left_behind ids (ids_following_block b (with_vars f vs ids))) v rest
 
   -- what a statement's own row breaks
   abbrev pub row_broken : Around → Ids → Form → Rules
   row_broken around ids (simple s) = simple_broken p f ids s
   row_broken around ids (call g target keys args) = call_broken p f ids (slice_get p.fns g) target keys args
   row_broken around ids (choose e a b) =
-      value_broken p f ids (Some bool) e ++ list_broken [] ids a ++ list_broken [] (ids_behind_block a ids) b
+      value_broken p f ids (Some bool) e ++ list_broken [] ids a ++ list_broken [] (ids_following_block a ids) b
   row_broken around ids (loop e b) = value_broken p f ids (Some bool) e ++ list_broken [] ids b
   row_broken around ids (switch v arms end) = switch_broken p f ids v arms ++ arms_broken ids v arms
   row_broken around ids (focus y z b) = focus_broken p f ids y z ++ list_broken [] (with_focus f z ids) b
@@ -159,7 +159,7 @@ module _ (p : Program) (f : Func) where
   -- the rows of statements, in preorder; `ended` says whether the statement before ends
   abbrev mutual
     pub form_rows : Around → Ids → Form → List Rules
-    form_rows around ids (choose e a b) = block_rows around ids a ++ block_rows around (ids_behind_block a ids) b
+    form_rows around ids (choose e a b) = block_rows around ids a ++ block_rows around (ids_following_block a ids) b
     form_rows around ids (loop e b) = block_rows (in_loop around) ids b
     form_rows around ids (switch v arms end) = arms_rows around ids arms
     form_rows around ids (focus y z b) = block_rows in_focus (with_focus f z ids) b
@@ -172,15 +172,15 @@ module _ (p : Program) (f : Func) where
     pub stmts_rows : Around → Ids → (ended : Bool) → Stmts → List Rules
     stmts_rows around ids ended done = []
     stmts_rows around ids ended (next at s rest) =
-        (unless (not ended) rule.BEHIND_END ++ row_broken around ids s) ∷
+        (unless (not ended) rule.AFTER_END ++ row_broken around ids s) ∷
         form_rows around ids s ++
-        stmts_rows around (ids_behind s ids) (ends s) rest
+        stmts_rows around (ids_following s ids) (ends s) rest
 
     pub arms_rows : Around → Ids → Arms → List Rules
     arms_rows around ids no_arms = []
     arms_rows around ids (arm c vs b rest) =
         block_rows around (with_vars f vs ids) b ++
-        arms_rows around (left_behind ids (ids_behind_block b (with_vars f vs ids))) rest
+        arms_rows around (left_behind ids (ids_following_block b (with_vars f vs ids))) rest
 
   -- the parameters and the keys of their types are in scope where the body begins
   abbrev pub first_ids : Ids

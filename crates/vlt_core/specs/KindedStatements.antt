@@ -197,7 +197,7 @@ simple_broken p f ids (adopt y x r) =
     keys_differ (guard_key (var_type f y)) (own_key f r) ++
     target_broken f ids y
 
--- what is in scope behind it
+-- what is in scope after it
 abbrev pub ids_after : Func → Simple → Ids → Ids
 ids_after f (set v e) ids = with_target f v ids
 ids_after f (input v more) ids = with_target f v ids

@@ -7,7 +7,7 @@ use Rattle.vlt_core.specs.Flow.{Flow, choose, loop, switch, scope, focus, Block,
 use Rattle.vlt_core.specs.Bodies.{body_flow}
 use Rattle.vlt_core.specs.Local.{Notes, IsLocalIn}
 
--- the maps at the head of the loop of this number and behind it, or the map behind the choice of this number
+-- the maps at the head of the loop of this number and after it, or the map after the choice of this number
 pub data Note : Type 0 where
   at_loop : ℕ → (around exit : HeldMap) → Note
   at_join : ℕ → HeldMap → Note
@@ -52,18 +52,18 @@ around_in [] n = nothing_held
 around_in (at_loop m around exit ∷ notes) n = if m == n then around else around_in notes n
 around_in (at_join m k ∷ notes) n = around_in notes n
 
-abbrev pub behind_in : List Note → ℕ → HeldMap
-behind_in [] n = nothing_held
-behind_in (at_loop m around exit ∷ notes) n = if m == n then exit else behind_in notes n
-behind_in (at_join m k ∷ notes) n = if m == n then k else behind_in notes n
+abbrev pub after_in : List Note → ℕ → HeldMap
+after_in [] n = nothing_held
+after_in (at_loop m around exit ∷ notes) n = if m == n then exit else after_in notes n
+after_in (at_join m k ∷ notes) n = if m == n then k else after_in notes n
 
 abbrev pub notes_in : List Note → Notes
-notes_in notes = record { around = around_in notes; behind = behind_in notes }
+notes_in notes = record { around = around_in notes; following = after_in notes }
 
 -- the note's maps lie below those of the annotation
 abbrev pub LiesBelow : Notes → Note → Type 0
-LiesBelow a (at_loop n around exit) = IsBelow around (a.around n) × IsBelow exit (a.behind n)
-LiesBelow a (at_join n m) = IsBelow m (a.behind n)
+LiesBelow a (at_loop n around exit) = IsBelow around (a.around n) × IsBelow exit (a.following n)
+LiesBelow a (at_join n m) = IsBelow m (a.following n)
 
 abbrev pub LieBelow : Notes → List Note → Type 0
 LieBelow a [] = Unit {0}

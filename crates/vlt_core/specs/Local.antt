@@ -1,4 +1,4 @@
--- Annotations: a map for each loop's head, and one behind each loop and each choice; and whether they hold everywhere.
+-- Annotations: a map for each loop's head, and one after each loop and each choice; and whether they hold everywhere.
 use Rattle.std.specs.Prelude.{ℕ, ◌+◌, Bool, true, false, ◌||◌, List, map, Option, Some, None}
 use Rattle.vlt_core.specs.Core.{Func, Program}
 use Rattle.vlt_core.specs.Maps.{HeldMap, Row, CanPass, map_after, IsBelow, away_row}
@@ -6,11 +6,11 @@ use Rattle.vlt_core.specs.Flow.{Flow, step, choose, loop, switch, scope, focus, 
 use Rattle.vlt_core.specs.Bodies.{body_flow}
 use Rattle.vlt_core.specs.Derives.{start_map}
 
--- By a statement's number: the map at the head of a loop, and the map behind a loop or behind a choice that can be
+-- By a statement's number: the map at the head of a loop, and the map after a loop or after a choice that can be
 -- passed.
 pub record Notes : Type 0 where
   pub around : ℕ → HeldMap
-  pub behind : ℕ → HeldMap
+  pub following : ℕ → HeldMap
 
 abbrev pub Then : Option HeldMap → (HeldMap → Option HeldMap) → Option HeldMap
 Then None go = None
@@ -33,9 +33,9 @@ rows_passed rs (Some m) = Some (map_after rs m)
 abbrev mutual
   pub leads : Notes → ℕ → HeldMap → Flow → Option HeldMap
   leads a n h (step rs) = Some (map_after rs h)
-  leads a n h (choose rs s t) = only_if (passes_block s || passes_block t) (a.behind n)
-  leads a n h (loop rs s) = Some (a.behind n)
-  leads a n h (switch rs arms end) = only_if (passes_arms arms) (a.behind n)
+  leads a n h (choose rs s t) = only_if (passes_block s || passes_block t) (a.following n)
+  leads a n h (loop rs s) = Some (a.following n)
+  leads a n h (switch rs arms end) = only_if (passes_arms arms) (a.following n)
   leads a n h (scope s) = leads_block a (n + 1) h s
   leads a n h (focus rs s es) = rows_passed es (leads_block a (n + 1) (map_after rs h) s)
   leads a n h (return rs) = None
@@ -48,14 +48,14 @@ abbrev mutual
   leads_stmts a n h done = Some h
   leads_stmts a n h (next at s rest) = Then (leads a n h s) (λ m. leads_stmts a (n + size s) m rest)
 
--- A map that comes to a jump lies below the map at the head of the loop around, or the one behind it.
+-- A map that comes to a jump lies below the map at the head of the loop around, or the one after it.
 abbrev pub Meets : Notes → Option ℕ → (continues : Bool) → HeldMap → Type 0
 Meets a None continues h = ⊥
 Meets a (Some l) true h = IsBelow h (a.around l)
-Meets a (Some l) false h = IsBelow h (a.behind l)
+Meets a (Some l) false h = IsBelow h (a.following l)
 
 -- The annotation holds at the statement of this number and inside it, from the map h on; l is the number of the loop
--- around, if there is one. Statements behind one that ends aren't looked at.
+-- around, if there is one. Statements after one that ends aren't looked at.
 abbrev mutual
   pub IsLocal : Notes → Option ℕ → ℕ → HeldMap → Flow → Type 0
   IsLocal a l n h (step rs) = CanPass rs h
@@ -63,15 +63,15 @@ abbrev mutual
       CanPass rs h ×
       IsLocalBlock a l (n + 1) (map_after rs h) s ×
       IsLocalBlock a l (n + 1 + size_block s) (map_after rs h) t ×
-      When (leads_block a (n + 1) (map_after rs h) s) (λ m. IsBelow m (a.behind n)) ×
-      When (leads_block a (n + 1 + size_block s) (map_after rs h) t) (λ m. IsBelow m (a.behind n))
+      When (leads_block a (n + 1) (map_after rs h) s) (λ m. IsBelow m (a.following n)) ×
+      When (leads_block a (n + 1 + size_block s) (map_after rs h) t) (λ m. IsBelow m (a.following n))
   IsLocal a l n h (loop rs s) =
       IsBelow h (a.around n) ×
       CanPass rs (a.around n) ×
-      IsBelow (map_after rs (a.around n)) (a.behind n) ×
+      IsBelow (map_after rs (a.around n)) (a.following n) ×
       IsLocalBlock a (Some n) (n + 1) (map_after rs (a.around n)) s ×
       When (leads_block a (n + 1) (map_after rs (a.around n)) s) (λ m. IsBelow m (a.around n))
-  IsLocal a l n h (switch rs arms end) = CanPass rs h × IsLocalArms a l (n + 1) (map_after rs h) arms (a.behind n)
+  IsLocal a l n h (switch rs arms end) = CanPass rs h × IsLocalArms a l (n + 1) (map_after rs h) arms (a.following n)
   IsLocal a l n h (scope s) = IsLocalBlock a l (n + 1) h s
   IsLocal a l n h (focus rs s es) =
       CanPass rs h ×

@@ -36,7 +36,7 @@ on_option (Some a) go = go a
 
 -- ---- expressions and operands
 
--- A touch of a field: the key is held in a state that the field permits; behind a guard, the guard is held.
+-- A touch of a field: the key is held in a state that the field permits; after a guard, the guard is held.
 abbrev pub touch_rows : Program → Func → (x position : ℕ) → List Row
 touch_rows p f x i =
     on_key (reference_of f x) (λ r. row (a_key r.key) (wants_in (permitted_in p r.type i)) stays) ++
@@ -112,7 +112,7 @@ abbrev pub given_back_rows : Program → Func → List Row
 given_back_rows p f =
     map (λ e. row (a_key e.key) (wants_in (after_set p f e)) becomes_absent) (filter is_given_back f.clause)
 
--- behind these, each token of the function is absent
+-- after these, each token of the function is absent
 abbrev pub return_rows : Program → Func → Option Operand → List Row
 return_rows p f value =
     on_option value (operand_rows p f) ++ new_rows p f value ++ given_back_rows p f ++ map away_row (tokens_of f)
@@ -165,7 +165,7 @@ arm_rows p f v case vs =
     on_option (variant_of f v) (λ t. map (λ k. row (a_key k.key) wants_absent (becomes_held k.states)) (case_keys p t case)) ++
     fill_rows f vs
 
--- the rows of a focus's end, behind those of its block's end
+-- the rows of a focus's end, after those of its block's end
 abbrev pub focus_end_rows : Program → Func → (y z : ℕ) → List Row
 focus_end_rows p f y z =
     end_row p f z ++ on_key (guarded_of f y) (λ g. row (a_key g.key) wants_lent comes_back)

@@ -85,7 +85,7 @@ abbrev mutual
   ThroughArm t zero (arm rs s rest) o cs x q ds = (m : One) × LeadsOn t rs o m × ThroughBlock t s m cs x q ds
   ThroughArm t (suc i) (arm rs s rest) o cs x q ds = ThroughArm t i rest o cs x q ds
 
--- ---- what a path meets behind its last choice
+-- ---- what a path meets after its last choice
 
 -- The path comes to the head of a loop after so many turns.
 abbrev pub Reaches : Way → Tok → List Row → (at n : ℕ) → One → List Choice → One → List Choice → Type 0

@@ -4,7 +4,7 @@ ghost use Rattle.std.specs.Prelude.{◌≡◌, ◌==◌, ◌||◌, ◌&&◌, ◌
 ghost use Rattle.std.specs.List.{list_any};
 ghost use Rattle.std.specs.Option.{option_map, option_copied};
 ghost use Rattle.vlt_base.specs.States.{has_state};
-ghost use Rattle.vlt_core.specs.View.{program_of, func_of, ty_of, type_of, field_of, case_of, states_of, set_of, link_of, entry_of};
+ghost use Rattle.vlt_core.specs.View.{program_of, func_of, ty_of, type_of, field_of, case_of, states_of, link_of, entry_of};
 ghost use Rattle.vlt_core.specs.Core.{kept};
 ghost use Rattle.vlt_core.specs.Instances.{bound_in, entry_in, IsWithinBound};
 ghost use Rattle.vlt_core.specs.HeldView.{IsSetOf, IsSetOrNone};

@@ -12,14 +12,14 @@ pub struct Annotation {
 
 #[derive(Drop)]
 pub enum Note {
-    /// The map at the loop's head, and the one behind it.
+    /// The map at the loop's head, and the one after it.
     Loop {
         /// The statement's number, counted from 0 in the function.
         stmt: StmtId,
         around: TokMap,
         exit: TokMap,
     },
-    /// The map behind an `if` or a `switch`.
+    /// The map after an `if` or a `switch`.
     Join {
         /// The statement's number, counted from 0 in the function.
         stmt: StmtId,

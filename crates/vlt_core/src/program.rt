@@ -157,9 +157,9 @@ pub struct VarDecl {
 pub enum Operand {
     /// The value of an expression.
     Pure(Expr),
-    /// The value of an owning variable, which is empty behind it.
+    /// The value of an owning variable, which is empty after it.
     Move(VarId),
-    /// The object of a tracked variable, in one of these states, whose key is gone behind it.
+    /// The object of a tracked variable, in one of these states, whose key is gone after it.
     Pack(VarId, StateSet),
 }
 

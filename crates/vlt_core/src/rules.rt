@@ -104,8 +104,8 @@ pub const TWO_CALLER_KEYS: u8 = 32;
 /// A call drops an owning result or a fresh key.
 pub const DROPPED_RESULT: u8 = 33;
 
-/// A statement stands behind one that ends.
-pub const BEHIND_END: u8 = 34;
+/// A statement stands after one that ends.
+pub const AFTER_END: u8 = 34;
 
 /// The body of a function with a result doesn't end.
 pub const NO_END: u8 = 35;

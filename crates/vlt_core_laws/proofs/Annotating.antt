@@ -16,8 +16,8 @@ IsAway i (Some j) = i ≢ j
 
 -- only the maps of the statements from n up to m differ
 pub record IsSameBut (a b : Notes) (n m : ℕ) : Type 0 where
-  pub before : (i : ℕ) → i < n → (b.around i ≡ a.around i) × (b.behind i ≡ a.behind i)
-  pub after : (i : ℕ) → m ≤ i → (b.around i ≡ a.around i) × (b.behind i ≡ a.behind i)
+  pub before : (i : ℕ) → i < n → (b.around i ≡ a.around i) × (b.following i ≡ a.following i)
+  pub after : (i : ℕ) → m ≤ i → (b.around i ≡ a.around i) × (b.following i ≡ a.following i)
 
 but_refl : (a : Notes) (n m : ℕ) → IsSameBut a a n m
 but_refl a n m = record { before = λ i p. (refl, refl); after = λ i p. (refl, refl) }
@@ -32,34 +32,34 @@ but_wider : (a b : Notes) (n m n' m' : ℕ) → IsSameBut a b n m → n' ≤ n �
 but_wider a b n m n' m' p u v = record { before = λ i w. p.before i (omega arith); after = λ i w. p.after i (omega arith) }
 
 but_on : (a b : Notes) (n m x y : ℕ) → IsSameBut a b n m → y ≤ n → IsSameOn a b x y
-but_on a b n m x y p u = record { around = λ i v w. sym (p.before i (omega arith)).0; behind = λ i v w. sym (p.before i (omega arith)).1 }
+but_on a b n m x y p u = record { around = λ i v w. sym (p.before i (omega arith)).0; following = λ i v w. sym (p.before i (omega arith)).1 }
 
 -- a loop that isn't one of the statements keeps its maps
 but_meets : (a b : Notes) (n m : ℕ) (l : Option ℕ) → IsSameBut a b n m → ((i : ℕ) → n ≤ i → i < m → IsAway i l) → IsGrownAt a b l
 but_meets a b n m None p away = record { each = λ c h x. x }
 but_meets a b n m (Some j) p away = record { each = one same }
   where
-    same : (b.around j ≡ a.around j) × (b.behind j ≡ a.behind j)
+    same : (b.around j ≡ a.around j) × (b.following j ≡ a.following j)
     same = ⊎_elim (p.before j) (λ ge. ⊎_elim (λ lt. absurd (away j ge lt refl)) (p.after j) (cases_lt j m)) (cases_lt j n)
 
-    one : (b.around j ≡ a.around j) × (b.behind j ≡ a.behind j) → (c : Bool) (h : HeldMap) → Meets a (Some j) c h → Meets b (Some j) c h
+    one : (b.around j ≡ a.around j) × (b.following j ≡ a.following j) → (c : Bool) (h : HeldMap) → Meets a (Some j) c h → Meets b (Some j) c h
     one e true h x = subst (IsBelow h) (sym e.0) x
     one e false h x = subst (IsBelow h) (sym e.1) x
 
 -- the maps of one statement put in
 put_notes : Notes → ℕ → HeldMap → HeldMap → Notes
-put_notes a n i k = record { around = λ j. cond (nat_eq j n) i (a.around j); behind = λ j. cond (nat_eq j n) k (a.behind j) }
+put_notes a n i k = record { around = λ j. cond (nat_eq j n) i (a.around j); following = λ j. cond (nat_eq j n) k (a.following j) }
 
-put_same : (a : Notes) (n : ℕ) (i k : HeldMap) → ((put_notes a n i k).around n ≡ i) × ((put_notes a n i k).behind n ≡ k)
+put_same : (a : Notes) (n : ℕ) (i k : HeldMap) → ((put_notes a n i k).around n ≡ i) × ((put_notes a n i k).following n ≡ k)
 unfolding put_notes
-put_same a n i k = (ap (λ t. cond t i (a.around n)) (same n), ap (λ t. cond t k (a.behind n)) (same n))
+put_same a n i k = (ap (λ t. cond t i (a.around n)) (same n), ap (λ t. cond t k (a.following n)) (same n))
   where
     same : (n : ℕ) → nat_eq n n ≡ true
     same n = grind (arith, nat_tests)
 
-put_other : (a : Notes) (n : ℕ) (i k : HeldMap) (j : ℕ) → j ≢ n → ((put_notes a n i k).around j ≡ a.around j) × ((put_notes a n i k).behind j ≡ a.behind j)
+put_other : (a : Notes) (n : ℕ) (i k : HeldMap) (j : ℕ) → j ≢ n → ((put_notes a n i k).around j ≡ a.around j) × ((put_notes a n i k).following j ≡ a.following j)
 unfolding put_notes
-put_other a n i k j ne = (ap (λ t. cond t i (a.around j)) (other j n ne), ap (λ t. cond t k (a.behind j)) (other j n ne))
+put_other a n i k j ne = (ap (λ t. cond t i (a.around j)) (other j n ne), ap (λ t. cond t k (a.following j)) (other j n ne))
   where
     other : (j n : ℕ) → j ≢ n → nat_eq j n ≡ false
     other j n ne = grind (arith, nat_tests)
@@ -68,7 +68,7 @@ put_but : (a : Notes) (n m : ℕ) (i k : HeldMap) → n < m → IsSameBut a (put
 put_but a n m i k lt = record { before = λ j u. put_other a n i k j (omega arith); after = λ j u. put_other a n i k j (omega arith) }
 
 put_on : (a : Notes) (n x y : ℕ) (i k : HeldMap) → n < x → IsSameOn a (put_notes a n i k) x y
-put_on a n x y i k lt = record { around = λ j u v. sym (put_other a n i k j (omega arith)).0; behind = λ j u v. sym (put_other a n i k j (omega arith)).1 }
+put_on a n x y i k lt = record { around = λ j u v. sym (put_other a n i k j (omega arith)).0; following = λ j u v. sym (put_other a n i k j (omega arith)).1 }
 
 -- what lies below the break map and the continue map meets the annotation
 pub record IsFit (a : Notes) (l : Option ℕ) (b c : HeldMap) : Type 0 where
@@ -77,7 +77,7 @@ pub record IsFit (a : Notes) (l : Option ℕ) (b c : HeldMap) : Type 0 where
 fit_grown : (a a' : Notes) (l : Option ℕ) (b c : HeldMap) → IsGrownAt a a' l → IsFit a l b c → IsFit a' l b c
 fit_grown a a' l b c g f = record { each = λ k h p. g.each k h (f.each k h p) }
 
-fit_loop : (a : Notes) (n : ℕ) (b c : HeldMap) → (a.around n ≡ c) × (a.behind n ≡ b) → IsFit a (Some n) b c
+fit_loop : (a : Notes) (n : ℕ) (b c : HeldMap) → (a.around n ≡ c) × (a.following n ≡ b) → IsFit a (Some n) b c
 fit_loop a n b c e = record { each = one }
   where
     one : (k : Bool) (h : HeldMap) → IsBelow h (toward k b c) → Meets a (Some n) k h
@@ -107,7 +107,7 @@ lies_only true m k p = p
 lies_only false m k p = tt
 
 on_chain : (a b c : Notes) (n m : ℕ) → IsSameOn a b n m → IsSameOn b c n m → IsSameOn a c n m
-on_chain a b c n m p q = record { around = λ i u v. p.around i u v ∙ q.around i u v; behind = λ i u v. p.behind i u v ∙ q.behind i u v }
+on_chain a b c n m p q = record { around = λ i u v. p.around i u v ∙ q.around i u v; following = λ i u v. p.following i u v ∙ q.following i u v }
 
 meets_chain : (a b c : Notes) (l : Option ℕ) → IsGrownAt a b l → IsGrownAt b c l → IsGrownAt a c l
 meets_chain a b c l p q = record { each = λ k h m. q.each k h (p.each k h m) }
@@ -148,7 +148,7 @@ mutual
       let same = but_meets f.notes e.notes (n + 1 + size_block u) (n + 1 + size_block u + size_block v) l e.same (λ i x y. away i (omega arith) (omega arith)) in
       let on_first : IsSameOn f.notes (put_notes e.notes n k k) (n + 1) (n + 1 + size_block u) = on_chain f.notes e.notes (put_notes e.notes n k k) (n + 1) (n + 1 + size_block u) (but_on f.notes e.notes _ _ (n + 1) (n + 1 + size_block u) e.same (omega arith)) (put_on e.notes n (n + 1) (n + 1 + size_block u) k k (omega arith)) in
       let on_second = put_on e.notes n (n + 1 + size_block u) (n + 1 + size_block u + size_block v) k k (omega arith) in
-      let behind = (put_same e.notes n k k).1 in
+      let following = (put_same e.notes n k k).1 in
       record {
         notes = a;
         same = but_trans g e.notes a n (n + (1 + (size_block u + size_block v))) (but_trans g f.notes e.notes n (n + (1 + (size_block u + size_block v))) (but_wider g f.notes _ _ n (n + (1 + (size_block u + size_block v))) f.same (omega arith) (omega arith)) (but_wider f.notes e.notes _ _ n (n + (1 + (size_block u + size_block v))) e.same (omega arith) (omega arith))) put;
@@ -156,27 +156,27 @@ mutual
           d.0,
           local_block_grown u f.notes a l (n + 1) (map_after rs h) on_first (meets_chain f.notes e.notes a l same grown) f.holds,
           local_block_grown v e.notes a l (n + 1 + size_block u) (map_after rs h) on_second grown e.holds,
-          when_same _ _ _ (λ m. IsBelow m (a.behind n)) (leads_block_same u f.notes a (n + 1) (map_after rs h) on_first) (λ m p. subst (IsBelow m) (sym behind) p) (lies_when _ k f.leads),
-          when_same _ _ _ (λ m. IsBelow m (a.behind n)) (leads_block_same v e.notes a (n + 1 + size_block u) (map_after rs h) on_second) (λ m p. subst (IsBelow m) (sym behind) p) (lies_when _ k e.leads),
+          when_same _ _ _ (λ m. IsBelow m (a.following n)) (leads_block_same u f.notes a (n + 1) (map_after rs h) on_first) (λ m p. subst (IsBelow m) (sym following) p) (lies_when _ k f.leads),
+          when_same _ _ _ (λ m. IsBelow m (a.following n)) (leads_block_same v e.notes a (n + 1 + size_block u) (map_after rs h) on_second) (λ m p. subst (IsBelow m) (sym following) p) (lies_when _ k e.leads),
         );
-        leads = lies_only (passes_block u || passes_block v) (a.behind n) k (subst (λ m. IsBelow m k) (sym behind) (map_refl k));
+        leads = lies_only (passes_block u || passes_block v) (a.following n) k (subst (λ m. IsBelow m k) (sym following) (map_refl k));
       }
   form_made (loop rs s) inside b c h k l n g j fit away d =
       let first = put_notes g n d.0 k in
       let f = block_made s true k d.0 (map_after rs d.0) d.0 (Some n) (n + 1) first j (λ x. fit_loop first n k d.0 (put_same g n d.0 k)) (λ i x y. omega arith) d.4 in
       let around = (f.same.before n (omega arith)).0 ∙ (put_same g n d.0 k).0 in
-      let behind = (f.same.before n (omega arith)).1 ∙ (put_same g n d.0 k).1 in
+      let following = (f.same.before n (omega arith)).1 ∙ (put_same g n d.0 k).1 in
       record {
         notes = f.notes;
         same = but_trans g first f.notes n (n + (1 + size_block s)) (put_but g n (n + (1 + size_block s)) d.0 k (omega arith)) (but_wider first f.notes _ _ n (n + (1 + size_block s)) f.same (omega arith) (omega arith));
         holds = (
           subst (IsBelow h) (sym around) d.1,
           subst (CanPass rs) (sym around) d.2,
-          subst (λ x. IsBelow (map_after rs x) (f.notes.behind n)) (sym around) (subst (IsBelow (map_after rs d.0)) (sym behind) d.3),
+          subst (λ x. IsBelow (map_after rs x) (f.notes.following n)) (sym around) (subst (IsBelow (map_after rs d.0)) (sym following) d.3),
           subst (λ x. IsLocalBlock f.notes (Some n) (n + 1) (map_after rs x) s) (sym around) f.holds,
           subst (λ x. When (leads_block f.notes (n + 1) (map_after rs x) s) (λ m. IsBelow m x)) (sym around) (lies_when _ d.0 f.leads),
         );
-        leads = subst (λ m. IsBelow m k) (sym behind) (map_refl k);
+        leads = subst (λ m. IsBelow m k) (sym following) (map_refl k);
       }
   form_made (switch rs arms end) inside b c h k l n g j fit away d =
       let f = arms_made arms inside b c (map_after rs h) k l (n + 1) g j fit (λ i x y. away i (omega arith) (omega arith)) d.1 in
@@ -184,12 +184,12 @@ mutual
       let put = put_but f.notes n (n + (1 + size_arms arms)) k k (omega arith) in
       let grown = but_meets f.notes a n (n + (1 + size_arms arms)) l put away in
       let on = put_on f.notes n (n + 1) (n + 1 + size_arms arms) k k (omega arith) in
-      let behind = (put_same f.notes n k k).1 in
+      let following = (put_same f.notes n k k).1 in
       record {
         notes = a;
         same = but_trans g f.notes a n (n + (1 + size_arms arms)) (but_wider g f.notes _ _ n (n + (1 + size_arms arms)) f.same (omega arith) (omega arith)) put;
-        holds = (d.0, subst (IsLocalArms a l (n + 1) (map_after rs h) arms) (sym behind) (local_arms_grown arms f.notes a l (n + 1) (map_after rs h) k on grown f.holds));
-        leads = lies_only (passes_arms arms) (a.behind n) k (subst (λ m. IsBelow m k) (sym behind) (map_refl k));
+        holds = (d.0, subst (IsLocalArms a l (n + 1) (map_after rs h) arms) (sym following) (local_arms_grown arms f.notes a l (n + 1) (map_after rs h) k on grown f.holds));
+        leads = lies_only (passes_arms arms) (a.following n) k (subst (λ m. IsBelow m k) (sym following) (map_refl k));
       }
 
   pub block_made : (s : Block) (inside : Bool) (b c h k : HeldMap) (l : Option ℕ) (n : ℕ) (g : Notes) → IsJumpingBlock inside s → (IsTrue inside → IsFit g l b c) → ((i : ℕ) → n ≤ i → i < n + size_block s → IsAway i l) → DerivesBlock b c h s k →

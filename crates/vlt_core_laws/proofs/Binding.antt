@@ -1,4 +1,4 @@
--- A binding leads on: what it binds is new, and is in scope behind it.
+-- A binding leads on: what it binds is new, and is in scope after it.
 use Rattle.std.proofs.Common.{◌≡◌, ℕ, Bool, true, false, not, ◌&&◌, ◌==◌, if◌then◌else◌, List, [], ◌∷◌, ◌++◌, Option, Some, None, refl, sym, ap, subst, ◌∙◌, ◌⊎◌, inl, inr, ⊎_elim}
 use Rattle.std.specs.Prelude.{nat_lt, length}
 use Rattle.std.specs.List.{flat_map}
@@ -187,7 +187,7 @@ module _ (f : Func) (ranged : (v k : ℕ) → has (type_keys f v) k ≡ true →
       (subst (λ x. Goes f ids (with_tokens f (Some k) v x)) (sym (with_var_is v _ there))
       (subst (λ b. Goes f ids (record (keyed k v ids) { bound = b })) (sym (one_more ids.bound (a_key k) (var_tok (is_owning_var f v) v))) (keyed_goes k v ids r fresh_key fresh typed2)))
 
-  -- what is bound is in scope behind
+  -- what is bound is in scope after
   pub binding_var : (ids : Ids) (fresh : Option ℕ) (v : ℕ) → binding_broken f ids fresh v ≡ [] → has (with_binding f fresh v ids).vars v ≡ true
   binding_var ids fresh v e =
       subst (λ x. has (with_tokens f fresh v x).vars v ≡ true) (sym (with_var_is v (with_key f fresh ids) (var_there ids fresh v e))) (has_first v (with_key f fresh ids).vars)

@@ -203,7 +203,7 @@ module _ (p : Program) (f : Func) (ranged : (v k : ℕ) → has (type_keys f v) 
       in_keys : (keys : List ℕ) (j k : ℕ) → slice_get keys j ≡ Some k → nat_lt j (length keys) ≡ true
       in_keys keys j k at = let less = slice_get_within keys j k at in grind (arith, nat_tests)
 
-  -- the keys that a call names are in scope behind it
+  -- the keys that a call names are in scope after it
   key_in : (fn : Func) (target : Option ℕ) (keys : List ℕ) → HasNewResult fn → keys_fit fn keys ≡ true → flat_map (λ k. unless (nat_lt k (length f.keys)) rule.UNKNOWN_NAME) keys ≡ [] →
       caller_keys_broken f ids fn (enumerate_from 0 keys) ≡ [] → call_target_broken f ids fn keys target ≡ [] → ((k : ℕ) → has ids.keys k ≡ true → g (a_key k) ≡ true) →
       Covers f g (with_call_target f (Some fn) target ids) → (j k : ℕ) → slice_get keys j ≡ Some k → g (a_key k) ≡ true

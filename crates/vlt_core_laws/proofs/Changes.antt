@@ -9,12 +9,12 @@ use Rattle.vlt_core.proofs.Maps.{map_refl, map_trans, can_below, passed_below}
 -- the maps of the statements from n up to m are the same
 pub record IsSameOn (a b : Notes) (n m : ℕ) : Type 0 where
   pub around : (i : ℕ) → n ≤ i → i < m → a.around i ≡ b.around i
-  pub behind : (i : ℕ) → n ≤ i → i < m → a.behind i ≡ b.behind i
+  pub following : (i : ℕ) → n ≤ i → i < m → a.following i ≡ b.following i
 
 pub same_part : (a b : Notes) (n m n' m' : ℕ) → IsSameOn a b n m → n ≤ n' → m' ≤ m → IsSameOn a b n' m'
 same_part a b n m n' m' s p q = record {
   around = λ i x y. s.around i (omega arith) (omega arith);
-  behind = λ i x y. s.behind i (omega arith) (omega arith);
+  following = λ i x y. s.following i (omega arith) (omega arith);
 }
 
 then_same : (o : Option HeldMap) (f g : HeldMap → Option HeldMap) → ((m : HeldMap) → f m ≡ g m) → Then o f ≡ Then o g
@@ -25,9 +25,9 @@ then_same (Some m) f g p = p m
 mutual
   pub leads_same : (s : Flow) (a b : Notes) (n : ℕ) (h : HeldMap) → IsSameOn a b n (n + size s) → leads a n h s ≡ leads b n h s
   leads_same (step rs) a b n h e = refl
-  leads_same (choose rs s t) a b n h e = ap (only_if (passes_block s || passes_block t)) (e.behind n (omega arith) (omega arith))
-  leads_same (loop rs s) a b n h e = ap Some (e.behind n (omega arith) (omega arith))
-  leads_same (switch rs arms end) a b n h e = ap (only_if (passes_arms arms)) (e.behind n (omega arith) (omega arith))
+  leads_same (choose rs s t) a b n h e = ap (only_if (passes_block s || passes_block t)) (e.following n (omega arith) (omega arith))
+  leads_same (loop rs s) a b n h e = ap Some (e.following n (omega arith) (omega arith))
+  leads_same (switch rs arms end) a b n h e = ap (only_if (passes_arms arms)) (e.following n (omega arith) (omega arith))
   leads_same (scope s) a b n h e = leads_block_same s a b (n + 1) h (same_part a b _ _ _ _ e (omega arith) (omega arith))
   leads_same (focus rs s es) a b n h e =
       ap (rows_passed es) (leads_block_same s a b (n + 1) (map_after rs h) (same_part a b _ _ _ _ e (omega arith) (omega arith)))
@@ -54,12 +54,12 @@ same_grown a b n m i e p q = record { each = one }
   where
     one : (c : Bool) (h : HeldMap) → Meets a (Some i) c h → Meets b (Some i) c h
     one true h x = subst (IsBelow h) (e.around i p q) x
-    one false h x = subst (IsBelow h) (e.behind i p q) x
+    one false h x = subst (IsBelow h) (e.following i p q) x
 
 pub meets_below : (a : Notes) (l : Option ℕ) (c : Bool) (h k : HeldMap) → IsBelow h k → Meets a l c k → Meets a l c h
 meets_below a None c h k p q = q
 meets_below a (Some l) true h k p q = map_trans h k (a.around l) p q
-meets_below a (Some l) false h k p q = map_trans h k (a.behind l) p q
+meets_below a (Some l) false h k p q = map_trans h k (a.following l) p q
 
 pub when_same : (o o' : Option HeldMap) (P Q : HeldMap → Type 0) → o ≡ o' → ((m : HeldMap) → P m → Q m) → When o P → When o' Q
 when_same o o' P Q e f w = subst (λ x. When x Q) e (inside o w)
@@ -74,7 +74,7 @@ mutual
   local_grown (choose rs s t) a b l n h e g d =
       let es = same_part a b _ _ (n + 1) (n + 1 + size_block s) e (omega arith) (omega arith) in
       let et = same_part a b _ _ (n + 1 + size_block s) (n + 1 + size_block s + size_block t) e (omega arith) (omega arith) in
-      let k = e.behind n (omega arith) (omega arith) in (
+      let k = e.following n (omega arith) (omega arith) in (
         d.0,
         local_block_grown s a b l (n + 1) (map_after rs h) es g d.1,
         local_block_grown t a b l (n + 1 + size_block s) (map_after rs h) et g d.2,
@@ -84,16 +84,16 @@ mutual
   local_grown (loop rs s) a b l n h e g d =
       let es = same_part a b _ _ (n + 1) (n + 1 + size_block s) e (omega arith) (omega arith) in
       let i = e.around n (omega arith) (omega arith) in
-      let k = e.behind n (omega arith) (omega arith) in (
+      let k = e.following n (omega arith) (omega arith) in (
         subst (IsBelow h) i d.0,
         subst (CanPass rs) i d.1,
-        subst (λ x. IsBelow (map_after rs (b.around n)) x) k (subst (λ x. IsBelow (map_after rs x) (a.behind n)) i d.2),
+        subst (λ x. IsBelow (map_after rs (b.around n)) x) k (subst (λ x. IsBelow (map_after rs x) (a.following n)) i d.2),
         subst (λ x. IsLocalBlock b (Some n) (n + 1) (map_after rs x) s) i (local_block_grown s a b (Some n) (n + 1) (map_after rs (a.around n)) es (same_grown a b _ _ n e (omega arith) (omega arith)) d.3),
         subst (λ x. When (leads_block b (n + 1) (map_after rs x) s) (λ m. IsBelow m x)) i (when_same _ _ _ (λ m. IsBelow m (a.around n)) (leads_block_same s a b (n + 1) (map_after rs (a.around n)) es) (λ m p. p) d.4),
       )
   local_grown (switch rs arms end) a b l n h e g d = (
     d.0,
-    subst (IsLocalArms b l (n + 1) (map_after rs h) arms) (e.behind n (omega arith) (omega arith)) (local_arms_grown arms a b l (n + 1) (map_after rs h) (a.behind n) (same_part a b _ _ _ _ e (omega arith) (omega arith)) g d.1),
+    subst (IsLocalArms b l (n + 1) (map_after rs h) arms) (e.following n (omega arith) (omega arith)) (local_arms_grown arms a b l (n + 1) (map_after rs h) (a.following n) (same_part a b _ _ _ _ e (omega arith) (omega arith)) g d.1),
   )
   local_grown (scope s) a b l n h e g d = local_block_grown s a b l (n + 1) h (same_part a b _ _ _ _ e (omega arith) (omega arith)) g d
   local_grown (focus rs s es) a b l n h e g d =
@@ -164,14 +164,14 @@ mutual
           can_below rs h k p d.0,
           u.0,
           v.0,
-          when_below _ _ _ u.1 (λ m m' x y. map_trans m m' (a.behind n) x y) d.3,
-          when_below _ _ _ v.1 (λ m m' x y. map_trans m m' (a.behind n) x y) d.4,
+          when_below _ _ _ u.1 (λ m m' x y. map_trans m m' (a.following n) x y) d.3,
+          when_below _ _ _ v.1 (λ m m' x y. map_trans m m' (a.following n) x y) d.4,
         ),
         lies_refl (leads a n h (choose rs s t)),
       )
-  local_below (loop rs s) a l n h k p d = ((map_trans h k (a.around n) p d.0, d.1, d.2, d.3, d.4), map_refl (a.behind n))
+  local_below (loop rs s) a l n h k p d = ((map_trans h k (a.around n) p d.0, d.1, d.2, d.3, d.4), map_refl (a.following n))
   local_below (switch rs arms end) a l n h k p d =
-      let u = local_arms_below arms a l (n + 1) (map_after rs h) (map_after rs k) (a.behind n) (passed_below rs h k p) d.1 in
+      let u = local_arms_below arms a l (n + 1) (map_after rs h) (map_after rs k) (a.following n) (passed_below rs h k p) d.1 in
       ((can_below rs h k p d.0, u), lies_refl (leads a n h (switch rs arms end)))
   local_below (scope s) a l n h k p d = local_block_below s a l (n + 1) h k p d
   local_below (focus rs s es) a l n h k p d =
@@ -224,9 +224,9 @@ then_some false c o f p q = ap (λ x. Then x f) p
 mutual
   pub leads_some : (s : Flow) (a : Notes) (n : ℕ) (h : HeldMap) → MatchBool (passes s) (IsSome (leads a n h s)) (leads a n h s ≡ None)
   leads_some (step rs) a n h = search rules
-  leads_some (choose rs s t) a n h = only_some (passes_block s || passes_block t) (a.behind n)
+  leads_some (choose rs s t) a n h = only_some (passes_block s || passes_block t) (a.following n)
   leads_some (loop rs s) a n h = search rules
-  leads_some (switch rs arms end) a n h = only_some (passes_arms arms) (a.behind n)
+  leads_some (switch rs arms end) a n h = only_some (passes_arms arms) (a.following n)
   leads_some (scope s) a n h = leads_block_some s a (n + 1) h
   leads_some (focus rs s es) a n h = rows_some es (passes_block s) _ (leads_block_some s a (n + 1) (map_after rs h))
   leads_some (return rs) a n h = refl

@@ -57,7 +57,7 @@ out_wider g bound h a = record { each = λ t e. a.each t (or_left (g t) (is_boun
 out_within : (s : Block) (g : Tok → Bool) (h : HeldMap) → IsAbsentOut g h → IsAbsentOut (within g s) h
 out_within (block ss bound end) g h a = out_wider g bound h a
 
--- behind a focus its own token is absent
+-- after a focus its own token is absent
 out_focus : (g : Tok → Bool) (x : Tok) (es : List Row) (m : HeldMap) → LeavesAbsent x es → IsAbsentOut (with_bound g (x ∷ [])) (map_after es m) → IsAbsentOut g (map_after es m)
 out_focus g x es m leaves a = record { each = λ t e. at t e (is_tok t x) refl }
   where
@@ -139,11 +139,11 @@ mutual
   form_out (step rs) g a l n h w p d = rows_out g rs h w p
   form_out (choose rs u v) g a l n h w p d =
       let q = rows_out g rs h w.0 p in
-      only_out g (passes_block u) (passes_block v) (a.behind n)
-      (way_out g (passes_block u) _ (a.behind n) (leads_block_some u a (n + 1) (map_after rs h)) (block_out u g a l (n + 1) (map_after rs h) w.1 (out_within u g (map_after rs h) q) d.1) d.3)
-      (way_out g (passes_block v) _ (a.behind n) (leads_block_some v a (n + 1 + size_block u) (map_after rs h)) (block_out v g a l (n + 1 + size_block u) (map_after rs h) w.2 (out_within v g (map_after rs h) q) d.2) d.4)
-  form_out (loop rs s) g a l n h w p d = out_below g (map_after rs (a.around n)) (a.behind n) d.2 (rows_out g rs (a.around n) w.0 (out_below g h (a.around n) d.0 p))
-  form_out (switch rs arms end) g a l n h w p d = only_when g (passes_arms arms) (a.behind n) (arms_out arms g a l (n + 1) (map_after rs h) (a.behind n) w.1 (rows_out g rs h w.0 p) d.1)
+      only_out g (passes_block u) (passes_block v) (a.following n)
+      (way_out g (passes_block u) _ (a.following n) (leads_block_some u a (n + 1) (map_after rs h)) (block_out u g a l (n + 1) (map_after rs h) w.1 (out_within u g (map_after rs h) q) d.1) d.3)
+      (way_out g (passes_block v) _ (a.following n) (leads_block_some v a (n + 1 + size_block u) (map_after rs h)) (block_out v g a l (n + 1 + size_block u) (map_after rs h) w.2 (out_within v g (map_after rs h) q) d.2) d.4)
+  form_out (loop rs s) g a l n h w p d = out_below g (map_after rs (a.around n)) (a.following n) d.2 (rows_out g rs (a.around n) w.0 (out_below g h (a.around n) d.0 p))
+  form_out (switch rs arms end) g a l n h w p d = only_when g (passes_arms arms) (a.following n) (arms_out arms g a l (n + 1) (map_after rs h) (a.following n) w.1 (rows_out g rs h w.0 p) d.1)
   form_out (scope s) g a l n h w p d = block_out s g a l (n + 1) h w (out_within s g h p) d
   form_out (focus rs s es) g a l n h w p d =
       let f = with_bound g (w.0 ∷ []) in
@@ -210,7 +210,7 @@ focus_end A D es k true None p e a c l go = absurd (no_some p)
 focus_end A D es k true (Some m) p e a c l go = (m, go m a (map_refl m), c, l)
 focus_end A D es k false o p e a c l go = true_false false e refl
 
--- the end of a block: the list's map, or the map behind the block where the list ends
+-- the end of a block: the list's map, or the map after the block where the list ends
 block_end : (A : HeldMap → Type 0) (D : HeldMap → Type 0) (bound : List Tok) (k : HeldMap) (o : Option HeldMap) → When o A → A k → When o (CanPass (map away_row bound)) → Lies (rows_passed (map away_row bound) o) (Some k) → CanPass (map away_row bound) k × IsBelow (map_after (map away_row bound) k) k → ((m : HeldMap) → A m → Lies o (Some m) → D m) → (m : HeldMap) × D m × CanPass (map away_row bound) m × IsBelow (map_after (map away_row bound) m) k
 block_end A D bound k None a ak c l e go = (k, go k ak tt, e.0, e.1)
 block_end A D bound k (Some m) a ak c l e go = (m, go m a (map_refl m), c, l)
@@ -230,12 +230,12 @@ or_true : (b : Bool) → (b || true) ≡ true
 or_true true = refl
 or_true false = refl
 
-loop_target : (a : Notes) (n : ℕ) (k : HeldMap) → IsBelow (a.behind n) k → IsTarget a (Some n) k (a.around n)
+loop_target : (a : Notes) (n : ℕ) (k : HeldMap) → IsBelow (a.following n) k → IsTarget a (Some n) k (a.around n)
 loop_target a n k below = record { each = one }
   where
     one : (c : Bool) (h : HeldMap) → Meets a (Some n) c h → IsBelow h (toward c k (a.around n))
     one true h p = p
-    one false h p = map_trans h (a.behind n) k p below
+    one false h p = map_trans h (a.following n) k p below
 
 mutual
   pub form_derives : (s : Flow) (g : Tok → Bool) (a : Notes) (l : Option ℕ) (n : ℕ) (b c h k : HeldMap) → IsScoped g s → IsAbsentOut g h → IsAbsentOut g k → IsTarget a l b c → IsLocal a l n h s → Lies (leads a n h s) (Some k) → Derives b c h s k
@@ -253,8 +253,8 @@ mutual
   form_derives (choose rs u v) g a l n b c h k w p q t d lies =
       let r = rows_out g rs h w.0 p in (
         d.0,
-        block_derives u g a l (n + 1) b c (map_after rs h) k w.1 (out_within u g (map_after rs h) r) q t d.1 (lies_way (passes_block u) _ (a.behind n) k (leads_block_some u a (n + 1) (map_after rs h)) d.3 (only_left (passes_block u) (passes_block v) (a.behind n) k lies)),
-        block_derives v g a l (n + 1 + size_block u) b c (map_after rs h) k w.2 (out_within v g (map_after rs h) r) q t d.2 (lies_way (passes_block v) _ (a.behind n) k (leads_block_some v a (n + 1 + size_block u) (map_after rs h)) d.4 (only_right (passes_block u) (passes_block v) (a.behind n) k lies)),
+        block_derives u g a l (n + 1) b c (map_after rs h) k w.1 (out_within u g (map_after rs h) r) q t d.1 (lies_way (passes_block u) _ (a.following n) k (leads_block_some u a (n + 1) (map_after rs h)) d.3 (only_left (passes_block u) (passes_block v) (a.following n) k lies)),
+        block_derives v g a l (n + 1 + size_block u) b c (map_after rs h) k w.2 (out_within v g (map_after rs h) r) q t d.2 (lies_way (passes_block v) _ (a.following n) k (leads_block_some v a (n + 1 + size_block u) (map_after rs h)) d.4 (only_right (passes_block u) (passes_block v) (a.following n) k lies)),
       )
   form_derives (loop rs s) g a l n b c h k w p q t d lies =
       let i = a.around n in
@@ -262,11 +262,11 @@ mutual
         i,
         d.0,
         d.1,
-        map_trans (map_after rs i) (a.behind n) k d.2 lies,
+        map_trans (map_after rs i) (a.following n) k d.2 lies,
         block_derives s g a (Some n) (n + 1) k i (map_after rs i) i w.1 (out_within s g (map_after rs i) (rows_out g rs i w.0 r)) r (loop_target a n k lies) d.3 (when_lies _ i d.4),
       )
   form_derives (switch rs arms end) g a l n b c h k w p q t d lies =
-      (d.0, arms_derives arms g a l (n + 1) b c (map_after rs h) (a.behind n) k w.1 (rows_out g rs h w.0 p) q t d.1 (only_below (passes_arms arms) (a.behind n) k lies))
+      (d.0, arms_derives arms g a l (n + 1) b c (map_after rs h) (a.following n) k w.1 (rows_out g rs h w.0 p) q t d.1 (only_below (passes_arms arms) (a.following n) k lies))
 
   pub block_derives : (s : Block) (g : Tok → Bool) (a : Notes) (l : Option ℕ) (n : ℕ) (b c h k : HeldMap) → IsScopedBlock g s → IsAbsentOut (within g s) h → IsAbsentOut g k → IsTarget a l b c → IsLocalBlock a l n h s → Lies (leads_block a n h s) (Some k) → DerivesBlock b c h s k
   block_derives (block ss bound end) g a l n b c h k w p q t d lies =
@@ -302,7 +302,7 @@ accepted s g h w p d = by_lead (leads_block d.0 0 h s) refl
 
 pub annotated : (s : Block) (h : HeldMap) → IsJumpingBlock false s → IsDerived s h → SomeLocal s h
 annotated s h j d =
-    let made = block_made s false d.0 d.1 h d.2.0 None 0 (record { around = λ i. h; behind = λ i. h }) j (λ x. absurd (never x)) (λ i x y. tt) d.2.1 in
+    let made = block_made s false d.0 d.1 h d.2.0 None 0 (record { around = λ i. h; following = λ i. h }) j (λ x. absurd (never x)) (λ i x y. tt) d.2.1 in
     (made.notes, made.holds)
   where
     never : IsTrue false → ⊥

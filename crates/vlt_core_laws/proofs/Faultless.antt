@@ -241,7 +241,7 @@ inside (Some l) = true
 abbrev pub Lies : Notes → Option ℕ → Bool → Tok → Ones
 Lies a None c t o = Unit {0}
 Lies a (Some l) true t o = Has (a.around l t) o
-Lies a (Some l) false t o = Has (a.behind l t) o
+Lies a (Some l) false t o = Has (a.following l t) o
 
 -- what comes out by a jump lies in the maps of the loop round it
 pub record Keeps (a : Notes) (l : Option ℕ) (outs : Tok → Exit → Ones) : Type 0 where
@@ -254,7 +254,7 @@ jump_meets c a None h T j e k = never j
     never : IsTrue false → ⊥
     never x = search rules
 jump_meets true a (Some l) h T j e k = map_below h (a.around l) T e (λ t o z. k.continues t o z)
-jump_meets false a (Some l) h T j e k = map_below h (a.behind l) T e (λ t o z. k.breaks t o z)
+jump_meets false a (Some l) h T j e k = map_below h (a.following l) T e (λ t o z. k.breaks t o z)
 
 mutual
   pub faultless : (s : Flow) (a : Notes) (l : Option ℕ) (n : ℕ) (h : HeldMap) (S : Every) → IsJumping (inside l) s → HasFilled s → Shows a n S s → AreFull h S → Keeps a l (λ t. out t s (S t)) → ((t : Tok) → HasFault t s (S t) → ⊥) → IsLocal a l n h s × Gives (passes s) (leads a n h s) (λ t. out t s (S t) to_next)
@@ -268,10 +268,10 @@ mutual
           r.0,
           p.0,
           q.0,
-          below_if (passes_block u) _ (a.behind n) (λ t. out_block t u (images t rs (S t)) to_next) (λ t. out t (choose rs u v) (S t) to_next) p.1 (λ x. w.0 (or_left (passes_block u) (passes_block v) x)) (λ t o z. inl z),
-          below_if (passes_block v) _ (a.behind n) (λ t. out_block t v (images t rs (S t)) to_next) (λ t. out t (choose rs u v) (S t) to_next) q.1 (λ x. w.0 (or_right (passes_block u) (passes_block v) x)) (λ t o z. inr z),
+          below_if (passes_block u) _ (a.following n) (λ t. out_block t u (images t rs (S t)) to_next) (λ t. out t (choose rs u v) (S t) to_next) p.1 (λ x. w.0 (or_left (passes_block u) (passes_block v) x)) (λ t o z. inl z),
+          below_if (passes_block v) _ (a.following n) (λ t. out_block t v (images t rs (S t)) to_next) (λ t. out t (choose rs u v) (S t) to_next) q.1 (λ x. w.0 (or_right (passes_block u) (passes_block v) x)) (λ t o z. inr z),
         ),
-        either_gives (passes_block u) (passes_block v) (a.behind n) (λ t. out t (choose rs u v) (S t) to_next)
+        either_gives (passes_block u) (passes_block v) (a.following n) (λ t. out t (choose rs u v) (S t) to_next)
             (some_if (passes_block u) _ (λ t. out_block t u (images t rs (S t)) to_next) (λ t. out t (choose rs u v) (S t) to_next) p.1 (λ t o z. inl z))
             (some_if (passes_block v) _ (λ t. out_block t v (images t rs (S t)) to_next) (λ t. out t (choose rs u v) (S t) to_next) q.1 (λ t o z. inr z))
             w.0,
@@ -286,7 +286,7 @@ mutual
         (
           map_below h (a.around n) S e (λ t o z. (w.0 t).there o (zero, z)),
           r.0,
-          map_below (map_after rs (a.around n)) (a.behind n) (λ t. images t rs (head_of t rs s (S t))) r.1 (λ t o z. (w.1 t).there o (inl z)),
+          map_below (map_after rs (a.around n)) (a.following n) (λ t. images t rs (head_of t rs s (S t))) r.1 (λ t o z. (w.1 t).there o (inl z)),
           p.0,
           below_if (passes_block s) _ (a.around n) (λ t. out_block t s (images t rs (head_of t rs s (S t))) to_next) (λ t. head_of t rs s (S t)) p.1 (λ x. w.0) (λ t o z. closed t o (inl z)),
         ),
@@ -294,8 +294,8 @@ mutual
       )
   faultless (switch rs arms end) a l n h S j fill w e k never =
       let r = rows_full rs S h fill.0 e (λ t x. never t (inl x)) in
-      let p = faultless_arms arms a l (n + 1) (map_after rs h) (λ t. images t rs (S t)) (a.behind n) (λ t. out t (switch rs arms end) (S t) to_next) j fill.1 w.1 r.1 (record { breaks = k.breaks; continues = k.continues }) (λ t x. never t (inr (inl x))) w.0 (λ t o z. z) in
-      ((r.0, p.0), one_gives (passes_arms arms) (a.behind n) (λ t. out t (switch rs arms end) (S t) to_next) p.1 w.0)
+      let p = faultless_arms arms a l (n + 1) (map_after rs h) (λ t. images t rs (S t)) (a.following n) (λ t. out t (switch rs arms end) (S t) to_next) j fill.1 w.1 r.1 (record { breaks = k.breaks; continues = k.continues }) (λ t x. never t (inr (inl x))) w.0 (λ t o z. z) in
+      ((r.0, p.0), one_gives (passes_arms arms) (a.following n) (λ t. out t (switch rs arms end) (S t) to_next) p.1 w.0)
   faultless (scope s) a l n h S j fill w e k never = let p = faultless_block s a l (n + 1) h S j fill w e (record { breaks = k.breaks; continues = k.continues }) never in (p.0, gives_same (passes_block s) _ _ _ p.1 (λ t o z. z) (λ t o z. z))
   faultless (focus rs s es) a l n h S j fill w e k never =
       let r = rows_full rs S h fill.0 e (λ t x. never t (inl x)) in

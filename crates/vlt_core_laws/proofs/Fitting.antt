@@ -12,7 +12,7 @@ use Rattle.vlt_core.specs.Bodies.{flow_of, flow_of_block, flow_of_stmts, flow_of
 use Rattle.vlt_core.specs.KindedHeads.{unless, has}
 use Rattle.vlt_core.specs.KindedScopes.{Ids, Around, at_block_start, left_behind, own_key, with_key, with_var, with_tokens, with_binding, binding_broken, use_broken}
 use Rattle.vlt_core.specs.KindedOperands.{expr_broken}
-use Rattle.vlt_core.specs.KindedBodies.{in_loop, in_focus, with_focus, with_vars, owning_toks, ends, ids_behind, ids_behind_block, ids_behind_stmts, ids_behind_arms, list_broken, switch_broken, arm_vars_broken, arm_broken, arms_broken, focus_broken, row_broken, form_rows, block_rows, stmts_rows, arms_rows}
+use Rattle.vlt_core.specs.KindedBodies.{in_loop, in_focus, with_focus, with_vars, owning_toks, ends, ids_following, ids_following_block, ids_following_stmts, ids_following_arms, list_broken, switch_broken, arm_vars_broken, arm_broken, arms_broken, focus_broken, row_broken, form_rows, block_rows, stmts_rows, arms_rows}
 use Rattle.vlt_core.specs.declared.rules.TheConstants as rule
 use Rattle.vlt_core_laws.specs.Scoped.{is_bound, with_bound, within, AreInScope}
 use Rattle.vlt_core_laws.specs.Tame.{ArePlain}
@@ -74,9 +74,9 @@ module _ (p : Program) (f : Func) (ranged : (v k : ℕ) → has (type_keys f v) 
   wider : (g : Tok → Bool) (s : flow.Block) (ids : Ids) → Covers f g ids → Covers f (within g s) ids
   wider g (flow.block ss bound end) ids c = record { keys = λ k e. or_left (g (a_key k)) (is_bound bound (a_key k)) (c.keys k e); vars = λ v e. or_left (g (a_var v)) (is_bound bound (a_var v)) (c.vars v e) }
 
-  -- the point behind a part that binds nothing in the block at hand
-  behind : (g : Tok → Bool) (left : List Tok) (ids last : Ids) → Point f g left ids → ((t : Tok) → was ids t ≡ true → was last t ≡ true) → Point f g left (left_behind ids last)
-  behind g left ids last pt grows = record {
+  -- the point after a part that binds nothing in the block at hand
+  following : (g : Tok → Bool) (left : List Tok) (ids last : Ids) → Point f g left ids → ((t : Tok) → was ids t ≡ true → was last t ≡ true) → Point f g left (left_behind ids last)
+  following g left ids last pt grows = record {
     covers = record { keys = pt.covers.keys; vars = pt.covers.vars };
     typed = record { each = pt.typed.each };
     bound = λ t b. grows t (pt.bound t b);
@@ -88,12 +88,12 @@ module _ (p : Program) (f : Func) (ranged : (v k : ℕ) → has (type_keys f v) 
   empty_if g true v e = (empty_good g v e, tt)
   empty_if g false v e = tt
 
-  -- behind a statement that isn't passed nothing stands
+  -- after a statement that isn't passed nothing stands
   last_one : (rest : core.Stmts) (s : core.Form) (left : List Tok) (around : Around) (ids : Ids) → EachEmpty (stmts_rows p f around ids (ends s) rest) → (passes (flow_of p f left s) ≡ false → ends s ≡ true) →
       passes (flow_of p f left s) ≡ false → flow_of_stmts p f left rest ≡ flow.done
   last_one core.done s left around ids rows q stop = refl
   last_one (core.next at t rest) s left around ids rows q stop =
-      not_both (ends s) (q stop) (is_false (ends s) (unless_holds (not (ends s)) rule.BEHIND_END (left_empty (unless (not (ends s)) rule.BEHIND_END) (row_broken p f around ids t) rows.0)))
+      not_both (ends s) (q stop) (is_false (ends s) (unless_holds (not (ends s)) rule.AFTER_END (left_empty (unless (not (ends s)) rule.AFTER_END) (row_broken p f around ids t) rows.0)))
 
   arm_enters : (vs : List ℕ) (ids : Ids) → ArmVars f ids (with_vars f vs ids) vs → Enters f ids (with_vars f vs ids) (owning_toks f vs)
   arm_enters vs ids x = record {
@@ -103,17 +103,17 @@ module _ (p : Program) (f : Func) (ranged : (v k : ℕ) → has (type_keys f v) 
   }
 
   -- a block binds nothing in the block around it
-  block_left : (b : core.Block) (ids : Ids) → left_behind ids (ids_behind_block p f b ids) ≡ ids_behind_block p f b ids
+  block_left : (b : core.Block) (ids : Ids) → left_behind ids (ids_following_block p f b ids) ≡ ids_following_block p f b ids
   block_left (core.block ss bound end) ids = refl
 
-  block_bound : (b : core.Block) (ids : Ids) → ids.bound ≡ (ids_behind_block p f b ids).bound
+  block_bound : (b : core.Block) (ids : Ids) → ids.bound ≡ (ids_following_block p f b ids).bound
   block_bound b ids = ap (λ x. x.bound) (block_left b ids)
 
-  arms_bound : (arms : core.Arms) (ids : Ids) → ids.bound ≡ (ids_behind_arms p f arms ids).bound
+  arms_bound : (arms : core.Arms) (ids : Ids) → ids.bound ≡ (ids_following_arms p f arms ids).bound
   arms_bound core.no_arms ids = refl
-  arms_bound (core.arm c vs b rest) ids = arms_bound rest (left_behind ids (ids_behind_block p f b (with_vars f vs ids)))
+  arms_bound (core.arm c vs b rest) ids = arms_bound rest (left_behind ids (ids_following_block p f b (with_vars f vs ids)))
 
-  apart_block : (b : core.Block) (ids : Ids) (g : Tok → Bool) → Apart f g ids (ids_behind_block p f b ids) → Apart f g ids (left_behind ids (ids_behind_block p f b ids))
+  apart_block : (b : core.Block) (ids : Ids) (g : Tok → Bool) → Apart f g ids (ids_following_block p f b ids) → Apart f g ids (left_behind ids (ids_following_block p f b ids))
   apart_block b ids g apart = subst (Apart f g ids) (sym (block_left b ids)) apart
 
   -- ---- a focus
@@ -176,7 +176,7 @@ module _ (p : Program) (f : Func) (ranged : (v k : ℕ) → has (type_keys f v) 
 
   mutual
     form_fine : (s : core.Form) (around : Around) (ids : Ids) (left : List Tok) (g : Tok → Bool) → HasArms s → row_broken p f around ids s ≡ [] → EachEmpty (form_rows p f around ids s) → Point f g left ids →
-        Apart f g ids (ids_behind p f s ids) → Final f g (ids_behind p f s ids) → Fine g (flow_of p f left s)
+        Apart f g ids (ids_following p f s ids) → Final f g (ids_following p f s ids) → Fine g (flow_of p f left s)
     form_fine (core.simple s) around ids left g a e rows pt apart final =
         let q = form_goes p f ranged (core.simple s) around ids e rows in
         let good = simple_good p f ranged g h owned ids pt.covers pt.typed s e (covers_on f g ids _ pt.others q pt.covers final) (q.typed pt.typed) in
@@ -192,7 +192,7 @@ module _ (p : Program) (f : Func) (ranged : (v k : ℕ) → has (type_keys f v) 
         let s = block_fine b around ids ids [] left g a e rows pt (nothing_more ids) (wider g (flow_of_block p f left b) ids pt.covers) pt.typed (apart_block b ids g apart) in
         record { scoped = s.scoped; tame = s.tame; filled = s.filled }
     form_fine (core.choose x b c) around ids left g a e rows pt apart final =
-        let ids2 = ids_behind_block p f b ids in
+        let ids2 = ids_following_block p f b ids in
         let rows_b = each_left (block_rows p f around ids b) (block_rows p f around ids2 c) rows in
         let rows_c = each_right (block_rows p f around ids b) (block_rows p f around ids2 c) rows in
         let qb = block_goes p f ranged b around ids rows_b in
@@ -201,7 +201,7 @@ module _ (p : Program) (f : Func) (ranged : (v k : ℕ) → has (type_keys f v) 
         let good = expr_good p f g ids pt.covers pt.typed x (left_empty (expr_broken p f ids x) _ (left_empty _ (list_broken p f [] ids b) e2)) in
         let fb = block_fine b around ids ids [] left g a.0 (right_empty _ (list_broken p f [] ids b) e2) rows_b pt (nothing_more ids) (wider g (flow_of_block p f left b) ids pt.covers) pt.typed
         (λ t k w0 w1 nb. apart t k w0 (qc.grows t w1) (subst (λ ts. is_bound ts t ≡ false) (block_bound b ids ∙ block_bound c ids2) nb)) in
-        let pt2 = subst (Point f g left) (block_left b ids) (behind g left ids (ids_behind_block p f b ids) pt (λ t w. qb.grows t w)) in
+        let pt2 = subst (Point f g left) (block_left b ids) (following g left ids (ids_following_block p f b ids) pt (λ t w. qb.grows t w)) in
         let fc = block_fine c around ids2 ids2 [] left g a.1 (right_empty _ (list_broken p f [] ids2 c) e) rows_c pt2 (nothing_more ids2) (wider g (flow_of_block p f left c) ids2 pt2.covers) pt2.typed
         (λ t k w0 w1 nb. apart t k (was_not (was ids t) (was ids2 t) (λ w. qb.grows t w) w0) w1 (subst (λ ts. is_bound ts t ≡ false) (block_bound c ids2) nb)) in
         record { scoped = (in_scope g _ good, fb.scoped, fc.scoped); tame = (plain g _ good, fb.tame, fc.tame); filled = (filled g _ good, fb.filled, fc.filled) }
@@ -227,7 +227,7 @@ module _ (p : Program) (f : Func) (ranged : (v k : ℕ) → has (type_keys f v) 
         let guard = keys_in p f g ids pt.covers pt.typed y (use_in p f g ids pt.covers pt.typed y used) in
         let rs = focus_rows p f h g2 y z o (or_left (g (a_key o.guard.key)) _ (guard_in g f y guard o.guard o.guarded)) (or_right (g key) _ (or_left _ false (tok_self key))) in
         let s = block_fine b in_focus ids0 ids0 [] left g2 a (right_empty (focus_broken p f ids y z) (list_broken p f [] ids0 b) e) rows pt0 (nothing_more ids0) (wider g2 (flow_of_block p f left b) ids0 pt0.covers) pt0.typed
-        (focus_apart y z ids left g pt o broken (ids_behind_block p f b ids0) apart) in
+        (focus_apart y z ids left g pt o broken (ids_following_block p f b ids0) apart) in
         record {
           scoped = (key, rs.enters, s.scoped, passing p f b left in_focus ids0 refl refl a rows, rs.leaves, rs.absent);
           tame = (rs.shape, s.tame, jumping_block p f b left in_focus ids0 rows);
@@ -235,9 +235,9 @@ module _ (p : Program) (f : Func) (ranged : (v k : ℕ) → has (type_keys f v) 
         }
 
     block_fine : (b : core.Block) (around : Around) (ids ids0 : Ids) (extra left : List Tok) (g : Tok → Bool) → HasArmsBlock b → list_broken p f extra ids0 b ≡ [] → EachEmpty (block_rows p f around ids0 b) → Point f g left ids →
-        Enters f ids ids0 extra → Covers f (within g (flow_of_block p f left b)) ids0 → AreTyped f ids0 → Apart f g ids (left_behind ids (ids_behind_block p f b ids0)) → FineBlock g (flow_of_block p f left b)
+        Enters f ids ids0 extra → Covers f (within g (flow_of_block p f left b)) ids0 → AreTyped f ids0 → Apart f g ids (left_behind ids (ids_following_block p f b ids0)) → FineBlock g (flow_of_block p f left b)
     block_fine (core.block ss bound end) around ids ids0 extra left g a e rows pt enters c t0 apart =
-        let last = ids_behind_stmts p f ss (at_block_start ids0) in
+        let last = ids_following_stmts p f ss (at_block_start ids0) in
         let q = stmts_go p f ranged ss around (at_block_start ids0) false rows in
         let s = stmts_fine ss around (at_block_start ids0) false (left ++ bound) (with_bound g bound) a rows
         (inner_point p f g left ids ids0 extra bound last pt enters q e apart c t0)
@@ -246,12 +246,12 @@ module _ (p : Program) (f : Func) (ranged : (v k : ℕ) → has (type_keys f v) 
         record { scoped = (listed_out p f g left ids ids0 extra bound last pt enters q e apart, s.scoped); tame = s.tame; filled = s.filled }
 
     pub stmts_fine : (ss : core.Stmts) (around : Around) (ids : Ids) (ended : Bool) (left : List Tok) (g : Tok → Bool) → HasArmsStmts ss → EachEmpty (stmts_rows p f around ids ended ss) → Point f g left ids →
-        Apart f g ids (ids_behind_stmts p f ss ids) → Final f g (ids_behind_stmts p f ss ids) → FineStmts g (flow_of_stmts p f left ss)
+        Apart f g ids (ids_following_stmts p f ss ids) → Final f g (ids_following_stmts p f ss ids) → FineStmts g (flow_of_stmts p f left ss)
     stmts_fine core.done around ids ended left g a rows pt apart final = record { scoped = tt; tame = tt; filled = tt }
     stmts_fine (core.next at s rest) around ids ended left g a rows pt apart final =
-        let ids1 = ids_behind p f s ids in
-        let last = ids_behind_stmts p f rest ids1 in
-        let e = right_empty (unless (not ended) rule.BEHIND_END) (row_broken p f around ids s) rows.0 in
+        let ids1 = ids_following p f s ids in
+        let last = ids_following_stmts p f rest ids1 in
+        let e = right_empty (unless (not ended) rule.AFTER_END) (row_broken p f around ids s) rows.0 in
         let rows1 = each_left (form_rows p f around ids s) (stmts_rows p f around ids1 (ends s) rest) rows.1 in
         let rows2 = each_right (form_rows p f around ids s) (stmts_rows p f around ids1 (ends s) rest) rows.1 in
         let q1 = form_goes p f ranged s around ids e rows1 in
@@ -275,11 +275,11 @@ module _ (p : Program) (f : Func) (ranged : (v k : ℕ) → has (type_keys f v) 
         }
 
     arms_fine : (arms : core.Arms) (v : ℕ) (around : Around) (ids : Ids) (left : List Tok) (g : Tok → Bool) → HasArmsArms arms → arms_broken p f ids v arms ≡ [] → EachEmpty (arms_rows p f around ids arms) → Point f g left ids →
-        Apart f g ids (ids_behind_arms p f arms ids) → KeysIn g f v → FineArms g (flow_of_arms p f left v arms)
+        Apart f g ids (ids_following_arms p f arms ids) → KeysIn g f v → FineArms g (flow_of_arms p f left v arms)
     arms_fine core.no_arms v around ids left g a e rows pt apart keys = record { scoped = tt; tame = tt; filled = tt }
     arms_fine (core.arm c vs b rest) v around ids left g a e rows pt apart keys =
         let ids1 = with_vars f vs ids in
-        let ids2 = left_behind ids (ids_behind_block p f b ids1) in
+        let ids2 = left_behind ids (ids_following_block p f b ids1) in
         let rows_b = each_left (block_rows p f around ids1 b) (arms_rows p f around ids2 rest) rows in
         let rows_r = each_right (block_rows p f around ids1 b) (arms_rows p f around ids2 rest) rows in
         let qb = block_goes p f ranged b around ids1 rows_b in
@@ -289,16 +289,16 @@ module _ (p : Program) (f : Func) (ranged : (v k : ℕ) → has (type_keys f v) 
         let lists = right_empty (arm_broken p f ids v c vs) (list_broken p f (owning_toks f vs) ids1 b) e2 in
         let x = arm_vars p f ranged vs _ ids (right_empty _ (arm_vars_broken f ids _ vs) (left_empty (arm_broken p f ids v c vs) (list_broken p f (owning_toks f vs) ids1 b) e2)) in
         let s = arm_fine b c vs v around ids left g a.0 lists rows_b pt x (λ t k w0 w1 nb. apart t k w0 (qr.grows t w1) (subst (λ ts. is_bound ts t ≡ false) (arms_bound rest ids2) nb)) keys in
-        let pt2 = behind g left ids (ids_behind_block p f b ids1) pt grows in
+        let pt2 = following g left ids (ids_following_block p f b ids1) pt grows in
         let y = arms_fine rest v around ids2 left g a.1 (right_empty (arm_broken p f ids v c vs ++ list_broken p f (owning_toks f vs) ids1 b) (arms_broken p f ids2 v rest) e) rows_r pt2
         (λ t k w0 w1 nb. apart t k (was_not (was ids t) (was ids2 t) (grows t) w0) w1 nb) keys in
         record { scoped = (s.enters, s.block.scoped, y.scoped); tame = (s.plain, s.block.tame, y.tame); filled = (s.fill, s.block.filled, y.filled) }
 
     arm_fine : (b : core.Block) (c : ℕ) (vs : List ℕ) (v : ℕ) (around : Around) (ids : Ids) (left : List Tok) (g : Tok → Bool) → HasArmsBlock b → list_broken p f (owning_toks f vs) (with_vars f vs ids) b ≡ [] → EachEmpty (block_rows p f around (with_vars f vs ids) b) →
-        Point f g left ids → ArmVars f ids (with_vars f vs ids) vs → Apart f g ids (left_behind ids (ids_behind_block p f b (with_vars f vs ids))) → KeysIn g f v → FineArm g (arm_rows p f v c vs) (flow_of_block p f left b)
+        Point f g left ids → ArmVars f ids (with_vars f vs ids) vs → Apart f g ids (left_behind ids (ids_following_block p f b (with_vars f vs ids))) → KeysIn g f v → FineArm g (arm_rows p f v c vs) (flow_of_block p f left b)
     arm_fine (core.block ss bound end) c vs v around ids left g a lists rows pt x apart keys =
         let ids1 = with_vars f vs ids in
-        let last = ids_behind_stmts p f ss (at_block_start ids1) in
+        let last = ids_following_stmts p f ss (at_block_start ids1) in
         let q = stmts_go p f ranged ss around (at_block_start ids1) false rows in
         let enters = arm_enters vs ids x in
         let g2 = with_bound g bound in

@@ -76,7 +76,7 @@ pub record FocusRows (g : Tok → Bool) (rs es : List Row) (x : Tok) : Type 0 wh
   pub empty : AreFilled es
   pub absent : LeavesAbsent x es
 
--- behind the rows of its end the key is absent, whatever the guard is
+-- after the rows of its end the key is absent, whatever the guard is
 left_absent : (p : Program) (a b : Reference) → LeavesAbsent (a_key b.key) (leave_rows p (Some a) (Some b))
 left_absent p a b h = by (is_tok (a_key b.key) (a_key a.key)) refl
   where

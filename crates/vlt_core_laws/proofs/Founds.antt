@@ -271,7 +271,7 @@ HasAt (Some m) t x = Has (m t) x
 abbrev pub MeetsOne : Notes → Option ℕ → Bool → Tok → One → Type 0
 MeetsOne a None c t x = ⊥
 MeetsOne a (Some l) true t x = Has (a.around l t) x
-MeetsOne a (Some l) false t x = Has (a.behind l t) x
+MeetsOne a (Some l) false t x = Has (a.following l t) x
 
 -- what comes out of a part lies in the maps of the annotation
 pub record IsOut (t : Tok) (a : Notes) (l : Option ℕ) (outs : Exit → Ones) (o : Option HeldMap) : Type 0 where
@@ -344,7 +344,7 @@ turns_in t F S i p f (suc n) = f (turns F n S) (turns_in t F S i p f n)
 meets_has : (a : Notes) (l : Option ℕ) (c : Bool) (h : HeldMap) (t : Tok) (x : One) → Meets a l c h → Has (h t) x → MeetsOne a l c t x
 meets_has a None c h t x m k = m
 meets_has a (Some l) true h t x m k = has_below (h t) (a.around l t) x (m.each t) k
-meets_has a (Some l) false h t x m k = has_below (h t) (a.behind l t) x (m.each t) k
+meets_has a (Some l) false h t x m k = has_below (h t) (a.following l t) x (m.each t) k
 
 -- nothing comes of nothing
 turns_empty : (F : Ones → Ones) (S : Ones) → ((x : One) → S x → ⊥) → ((T : Ones) → ((x : One) → T x → ⊥) → (x : One) → F T x → ⊥) → (n : ℕ) (x : One) → turns F n S x → ⊥
@@ -378,9 +378,9 @@ mutual
       let round = λ (T : Ones) (q : (x : One) → T x → ⊥) (x : One) (y : both (out_block t s (images t rs T) to_next) (out_block t s (images t rs T) to_continue) x). ⊎_elim ((step T q).0 to_next x) ((step T q).0 to_continue x) y in
       let top = λ (x : One) (y : head_of t rs s S x). turns_empty _ S p round y.0 x y.1 in
       let inner = step (head_of t rs s S) top in
-      let behind = λ (x : One) (y : out t (loop rs s) S to_next x). ⊎_elim (images_empty t rs (head_of t rs s S) top x) (inner.0 to_break x) y in (
-        exits t rs s S behind,
-        ⊎_elim (λ m. top one_absent m.0) (⊎_elim (rows_fault_empty t rs (head_of t rs s S) top) (⊎_elim inner.1 (λ m. behind one_absent m.0))),
+      let following = λ (x : One) (y : out t (loop rs s) S to_next x). ⊎_elim (images_empty t rs (head_of t rs s S) top x) (inner.0 to_break x) y in (
+        exits t rs s S following,
+        ⊎_elim (λ m. top one_absent m.0) (⊎_elim (rows_fault_empty t rs (head_of t rs s S) top) (⊎_elim inner.1 (λ m. following one_absent m.0))),
       )
     where
       exits : (t : Tok) (rs : List Row) (s : Block) (S : Ones) → ((x : One) → out t (loop rs s) S to_next x → ⊥) → (e : Exit) (x : One) → out t (loop rs s) S e x → ⊥
@@ -472,15 +472,15 @@ mutual
       let q = images_in t rs S h p in
       let f = local_out_block u t a l (n + 1) (map_after rs h) (images t rs S) q d.1 in
       let g = local_out_block v t a l (n + 1 + size_block u) (map_after rs h) (images t rs S) q d.2 in
-      let first = λ (x : One) (y : out_block t u (images t rs S) to_next x). only_left (passes_block u) (passes_block v) (a.behind n) t x (passes_has (passes_block u) _ t x (leads_block_some u a (n + 1) (map_after rs h)) (f.0.next x y)) (has_through _ (a.behind n) t x (f.0.next x y) d.3) in
-      let second = λ (x : One) (y : out_block t v (images t rs S) to_next x). only_right (passes_block u) (passes_block v) (a.behind n) t x (passes_has (passes_block v) _ t x (leads_block_some v a (n + 1 + size_block u) (map_after rs h)) (g.0.next x y)) (has_through _ (a.behind n) t x (g.0.next x y) d.4) in
-      let behind = λ (x : One) (y : out t (choose rs u v) S to_next x). ⊎_elim (first x) (second x) y in (
+      let first = λ (x : One) (y : out_block t u (images t rs S) to_next x). only_left (passes_block u) (passes_block v) (a.following n) t x (passes_has (passes_block u) _ t x (leads_block_some u a (n + 1) (map_after rs h)) (f.0.next x y)) (has_through _ (a.following n) t x (f.0.next x y) d.3) in
+      let second = λ (x : One) (y : out_block t v (images t rs S) to_next x). only_right (passes_block u) (passes_block v) (a.following n) t x (passes_has (passes_block v) _ t x (leads_block_some v a (n + 1 + size_block u) (map_after rs h)) (g.0.next x y)) (has_through _ (a.following n) t x (g.0.next x y) d.4) in
+      let following = λ (x : One) (y : out t (choose rs u v) S to_next x). ⊎_elim (first x) (second x) y in (
         record {
-          next = behind;
+          next = following;
           breaks = λ x y. ⊎_elim (f.0.breaks x) (g.0.breaks x) y;
           continues = λ x y. ⊎_elim (f.0.continues x) (g.0.continues x) y;
         },
-        ⊎_elim (rows_fault_none t rs S h p d.0) (⊎_elim f.1 (⊎_elim g.1 (mixed_none (out t (choose rs u v) S to_next) (a.behind n t) (record { each = λ x y. only_has (passes_block u || passes_block v) (a.behind n) t x (behind x y) })))),
+        ⊎_elim (rows_fault_none t rs S h p d.0) (⊎_elim f.1 (⊎_elim g.1 (mixed_none (out t (choose rs u v) S to_next) (a.following n t) (record { each = λ x y. only_has (passes_block u || passes_block v) (a.following n) t x (following x y) })))),
       )
   local_out (loop rs s) t a l n h S p d =
       let i = a.around n in
@@ -489,14 +489,14 @@ mutual
       let top : IsIn (head_of t rs s S) (i t) = record { each = λ x y. (turns_in t _ S (i t) (in_below S (h t) (i t) (d.0.each t) p) round y.0).each x y.1 } in
       let inner = step (head_of t rs s S) top in
       let rows = images_in t rs (head_of t rs s S) i top in
-      let behind = λ (x : One) (y : out t (loop rs s) S to_next x). ⊎_elim (λ z. has_below (map_after rs i t) (a.behind n t) x (d.2.each t) (rows.each x z)) (inner.0.breaks x) y in (
-        record { next = behind; breaks = λ x y. absurd y; continues = λ x y. absurd y },
-        ⊎_elim (mixed_none (head_of t rs s S) (i t) top) (⊎_elim (rows_fault_none t rs (head_of t rs s S) i top d.1) (⊎_elim inner.1 (mixed_none (out t (loop rs s) S to_next) (a.behind n t) (record { each = behind })))),
+      let following = λ (x : One) (y : out t (loop rs s) S to_next x). ⊎_elim (λ z. has_below (map_after rs i t) (a.following n t) x (d.2.each t) (rows.each x z)) (inner.0.breaks x) y in (
+        record { next = following; breaks = λ x y. absurd y; continues = λ x y. absurd y },
+        ⊎_elim (mixed_none (head_of t rs s S) (i t) top) (⊎_elim (rows_fault_none t rs (head_of t rs s S) i top d.1) (⊎_elim inner.1 (mixed_none (out t (loop rs s) S to_next) (a.following n t) (record { each = following })))),
       )
   local_out (switch rs arms end) t a l n h S p d =
-      let g = local_out_arms arms t a l (n + 1) (map_after rs h) (images t rs S) (a.behind n) (images_in t rs S h p) d.1 in (
+      let g = local_out_arms arms t a l (n + 1) (map_after rs h) (images t rs S) (a.following n) (images_in t rs S h p) d.1 in (
         g.0,
-        ⊎_elim (rows_fault_none t rs S h p d.0) (⊎_elim g.1 (mixed_none (out t (switch rs arms end) S to_next) (a.behind n t) (record { each = λ x y. only_has (passes_arms arms) (a.behind n) t x (g.0.next x y) }))),
+        ⊎_elim (rows_fault_none t rs S h p d.0) (⊎_elim g.1 (mixed_none (out t (switch rs arms end) S to_next) (a.following n t) (record { each = λ x y. only_has (passes_arms arms) (a.following n) t x (g.0.next x y) }))),
       )
   local_out (scope s) t a l n h S p d = local_out_block s t a l (n + 1) h S p d
   local_out (focus rs s es) t a l n h S p d =

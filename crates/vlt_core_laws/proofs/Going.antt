@@ -8,7 +8,7 @@ use Rattle.vlt_core.specs.KindedScopes.{Ids, Around, at_block_start, left_behind
 use Rattle.vlt_core.specs.KindedOperands.{misfit}
 use Rattle.vlt_core.specs.KindedStatements.{with_bindings, opened_broken, simple_broken, ids_after}
 use Rattle.vlt_core.specs.KindedCalls.{is_fresh_call, with_call_target, call_target_broken, call_broken}
-use Rattle.vlt_core.specs.KindedBodies.{in_loop, in_focus, with_focus, with_vars, ends, ids_behind, ids_behind_block, ids_behind_stmts, ids_behind_arms, row_broken, form_rows, block_rows, stmts_rows, arms_rows}
+use Rattle.vlt_core.specs.KindedBodies.{in_loop, in_focus, with_focus, with_vars, ends, ids_following, ids_following_block, ids_following_stmts, ids_following_arms, row_broken, form_rows, block_rows, stmts_rows, arms_rows}
 use Rattle.vlt_core.specs.declared.rules.TheConstants as rule
 use Rattle.vlt_core_laws.proofs.Unbroken.{EachEmpty, left_empty, right_empty, each_left, each_right}
 use Rattle.vlt_core_laws.proofs.Ids.{was, type_keys, Goes, or_right, stays, goes_on}
@@ -95,38 +95,38 @@ module _ (p : Program) (f : Func) (ranged : (v k : ℕ) → has (type_keys f v) 
   -- ---- all parts
 
   mutual
-    pub form_goes : (s : core.Form) (around : Around) (ids : Ids) → row_broken p f around ids s ≡ [] → EachEmpty (form_rows p f around ids s) → Goes f ids (ids_behind p f s ids)
+    pub form_goes : (s : core.Form) (around : Around) (ids : Ids) → row_broken p f around ids s ≡ [] → EachEmpty (form_rows p f around ids s) → Goes f ids (ids_following p f s ids)
     form_goes (core.simple s) around ids e rows = simple_goes s ids e
     form_goes (core.call g target keys args) around ids e rows = call_goes (slice_get p.fns g) target keys args ids e
     form_goes (core.choose x a b) around ids e rows =
-        let ids2 = ids_behind_block p f a ids in
+        let ids2 = ids_following_block p f a ids in
         goes_on f ids ids2 _ (block_goes a around ids (each_left (block_rows p f around ids a) (block_rows p f around ids2 b) rows))
         (block_goes b around ids2 (each_right (block_rows p f around ids a) (block_rows p f around ids2 b) rows))
     form_goes (core.loop x b) around ids e rows = block_goes b (in_loop around) ids rows
     form_goes (core.switch v arms end) around ids e rows = arms_go arms around ids rows
     form_goes (core.focus y z b) around ids e rows =
-        leaves f ids (ids_behind_block p f b (with_focus f z ids)) (λ t w. (block_goes b in_focus (with_focus f z ids) rows).grows t (focus_grows z ids t w))
+        leaves f ids (ids_following_block p f b (with_focus f z ids)) (λ t w. (block_goes b in_focus (with_focus f z ids) rows).grows t (focus_grows z ids t w))
     form_goes (core.scope b) around ids e rows = block_goes b around ids rows
     form_goes (core.return value) around ids e rows = stays f ids
     form_goes (core.jump continues) around ids e rows = stays f ids
 
-    pub block_goes : (b : core.Block) (around : Around) (ids : Ids) → EachEmpty (block_rows p f around ids b) → Goes f ids (ids_behind_block p f b ids)
-    block_goes (core.block ss bound end) around ids rows = leaves f ids (ids_behind_stmts p f ss (at_block_start ids)) (λ t w. (stmts_go ss around (at_block_start ids) false rows).grows t w)
+    pub block_goes : (b : core.Block) (around : Around) (ids : Ids) → EachEmpty (block_rows p f around ids b) → Goes f ids (ids_following_block p f b ids)
+    block_goes (core.block ss bound end) around ids rows = leaves f ids (ids_following_stmts p f ss (at_block_start ids)) (λ t w. (stmts_go ss around (at_block_start ids) false rows).grows t w)
 
-    pub stmts_go : (ss : core.Stmts) (around : Around) (ids : Ids) (ended : Bool) → EachEmpty (stmts_rows p f around ids ended ss) → Goes f ids (ids_behind_stmts p f ss ids)
+    pub stmts_go : (ss : core.Stmts) (around : Around) (ids : Ids) (ended : Bool) → EachEmpty (stmts_rows p f around ids ended ss) → Goes f ids (ids_following_stmts p f ss ids)
     stmts_go core.done around ids ended rows = stays f ids
     stmts_go (core.next at s rest) around ids ended rows =
-        let ids2 = ids_behind p f s ids in
+        let ids2 = ids_following p f s ids in
         goes_on f ids ids2 _
-        (form_goes s around ids (right_empty (unless (not ended) rule.BEHIND_END) (row_broken p f around ids s) rows.0)
+        (form_goes s around ids (right_empty (unless (not ended) rule.AFTER_END) (row_broken p f around ids s) rows.0)
         (each_left (form_rows p f around ids s) (stmts_rows p f around ids2 (ends s) rest) rows.1))
         (stmts_go rest around ids2 (ends s) (each_right (form_rows p f around ids s) (stmts_rows p f around ids2 (ends s) rest) rows.1))
 
-    pub arms_go : (arms : core.Arms) (around : Around) (ids : Ids) → EachEmpty (arms_rows p f around ids arms) → Goes f ids (ids_behind_arms p f arms ids)
+    pub arms_go : (arms : core.Arms) (around : Around) (ids : Ids) → EachEmpty (arms_rows p f around ids arms) → Goes f ids (ids_following_arms p f arms ids)
     arms_go core.no_arms around ids rows = stays f ids
     arms_go (core.arm c vs b rest) around ids rows =
         let ids1 = with_vars f vs ids in
-        let ids2 = left_behind ids (ids_behind_block p f b ids1) in
+        let ids2 = left_behind ids (ids_following_block p f b ids1) in
         goes_on f ids ids2 _
-        (leaves f ids (ids_behind_block p f b ids1) (λ t w. (block_goes b around ids1 (each_left (block_rows p f around ids1 b) (arms_rows p f around ids2 rest) rows)).grows t (vars_grow vs ids t w)))
+        (leaves f ids (ids_following_block p f b ids1) (λ t w. (block_goes b around ids1 (each_left (block_rows p f around ids1 b) (arms_rows p f around ids2 rest) rows)).grows t (vars_grow vs ids t w)))
         (arms_go rest around ids2 (each_right (block_rows p f around ids1 b) (arms_rows p f around ids2 rest) rows))

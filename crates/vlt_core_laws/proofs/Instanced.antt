@@ -8,7 +8,7 @@ use Rattle.vlt_core.specs.Instances.{mode_of_instance, entry_of_instance, instan
 use Rattle.vlt_core.specs.KindedHeads.{unless, new_keys, head_keys, keys_of_result, keys_of_parameters}
 use Rattle.vlt_core.specs.KindedScopes.{Ids, Around, at_block_start, left_behind}
 use Rattle.vlt_core.specs.KindedCalls.{kept_keys, new_result_broken, returned_broken, return_broken}
-use Rattle.vlt_core.specs.KindedBodies.{ends, in_loop, in_focus, with_vars, with_focus, ids_behind, ids_behind_block, row_broken, form_rows, block_rows, stmts_rows, arms_rows, first_ids, body_rows}
+use Rattle.vlt_core.specs.KindedBodies.{ends, in_loop, in_focus, with_vars, with_focus, ids_following, ids_following_block, row_broken, form_rows, block_rows, stmts_rows, arms_rows, first_ids, body_rows}
 
 -- ---- clauses
 
@@ -124,7 +124,7 @@ module _ (p : Program) (f : Func) (o : Option ℕ) where
 
   mutual
     form_rows_same : (around : Around) (ids : Ids) (s : Form) → form_rows p f' around ids s ≡ form_rows p f around ids s
-    form_rows_same around ids (choose e a b) = rw (block_rows_same around ids a, block_rows_same around (ids_behind_block p f a ids) b) refl
+    form_rows_same around ids (choose e a b) = rw (block_rows_same around ids a, block_rows_same around (ids_following_block p f a ids) b) refl
     form_rows_same around ids (loop e b) = block_rows_same (in_loop around) ids b
     form_rows_same around ids (switch v arms end) = arms_rows_same around ids arms
     form_rows_same around ids (focus y z b) = block_rows_same in_focus (with_focus f z ids) b
@@ -140,14 +140,14 @@ module _ (p : Program) (f : Func) (o : Option ℕ) where
     stmts_rows_same : (around : Around) (ids : Ids) (ended : Bool) (ss : Stmts) → stmts_rows p f' around ids ended ss ≡ stmts_rows p f around ids ended ss
     stmts_rows_same around ids ended done = refl
     stmts_rows_same around ids ended (next at s rest) =
-        rw (row_same around ids s, form_rows_same around ids s, stmts_rows_same around (ids_behind p f s ids) (ends s) rest) refl
+        rw (row_same around ids s, form_rows_same around ids s, stmts_rows_same around (ids_following p f s ids) (ends s) rest) refl
 
     arms_rows_same : (around : Around) (ids : Ids) (arms : Arms) → arms_rows p f' around ids arms ≡ arms_rows p f around ids arms
     arms_rows_same around ids no_arms = refl
     arms_rows_same around ids (arm c vs b rest) =
         rw (
           block_rows_same around (with_vars f vs ids) b,
-          arms_rows_same around (left_behind ids (ids_behind_block p f b (with_vars f vs ids))) rest,
+          arms_rows_same around (left_behind ids (ids_following_block p f b (with_vars f vs ids))) rest,
         ) refl
 
   first_same : first_ids p f' ≡ first_ids p f

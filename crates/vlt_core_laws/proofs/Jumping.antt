@@ -4,7 +4,7 @@ use Rattle.vlt_core.specs.Core as core
 use Rattle.vlt_core.specs.Core.{Tok, Func, Program}
 use Rattle.vlt_core.specs.KindedHeads.{unless}
 use Rattle.vlt_core.specs.KindedScopes.{Ids, Around, at_block_start, left_behind}
-use Rattle.vlt_core.specs.KindedBodies.{in_loop, in_focus, with_focus, with_vars, ends, ids_behind, ids_behind_block, row_broken, form_rows, block_rows, stmts_rows, arms_rows}
+use Rattle.vlt_core.specs.KindedBodies.{in_loop, in_focus, with_focus, with_vars, ends, ids_following, ids_following_block, row_broken, form_rows, block_rows, stmts_rows, arms_rows}
 use Rattle.vlt_core.specs.Flow as flow
 use Rattle.vlt_core.specs.Bodies.{flow_of, flow_of_block, flow_of_stmts, flow_of_arms}
 use Rattle.vlt_core_laws.specs.Scoped.{IsJumping, IsJumpingBlock, IsJumpingStmts, IsJumpingArms}
@@ -44,8 +44,8 @@ module _ (p : Program) (f : Func) where
     jumping_form (core.simple s) left around ids e rows = tt
     jumping_form (core.call g target keys args) left around ids e rows = tt
     jumping_form (core.choose x a b) left around ids e rows = (
-      jumping_block a left around ids (each_left (block_rows p f around ids a) (block_rows p f around (ids_behind_block p f a ids) b) rows),
-      jumping_block b left around (ids_behind_block p f a ids) (each_right (block_rows p f around ids a) (block_rows p f around (ids_behind_block p f a ids) b) rows),
+      jumping_block a left around ids (each_left (block_rows p f around ids a) (block_rows p f around (ids_following_block p f a ids) b) rows),
+      jumping_block b left around (ids_following_block p f a ids) (each_right (block_rows p f around ids a) (block_rows p f around (ids_following_block p f a ids) b) rows),
     )
     jumping_form (core.loop x b) left around ids e rows = jumping_block b [] (in_loop around) ids rows
     jumping_form (core.switch v arms end) left around ids e rows = jumping_arms arms left v around ids rows
@@ -63,16 +63,16 @@ module _ (p : Program) (f : Func) where
         IsJumpingStmts around.jumps (flow_of_stmts p f left ss)
     jumping_stmts core.done left around ids ended rows = tt
     jumping_stmts (core.next at s rest) left around ids ended rows = (
-      jumping_form s left around ids (right_empty (unless (not ended) rule.BEHIND_END) (row_broken p f around ids s) rows.0)
-          (each_left (form_rows p f around ids s) (stmts_rows p f around (ids_behind p f s ids) (ends s) rest) rows.1),
-      jumping_stmts rest left around (ids_behind p f s ids) (ends s) (each_right (form_rows p f around ids s) (stmts_rows p f around (ids_behind p f s ids) (ends s) rest) rows.1),
+      jumping_form s left around ids (right_empty (unless (not ended) rule.AFTER_END) (row_broken p f around ids s) rows.0)
+          (each_left (form_rows p f around ids s) (stmts_rows p f around (ids_following p f s ids) (ends s) rest) rows.1),
+      jumping_stmts rest left around (ids_following p f s ids) (ends s) (each_right (form_rows p f around ids s) (stmts_rows p f around (ids_following p f s ids) (ends s) rest) rows.1),
     )
 
     jumping_arms : (arms : core.Arms) (left : List Tok) (v : ℕ) (around : Around) (ids : Ids) → EachEmpty (arms_rows p f around ids arms) →
         IsJumpingArms around.jumps (flow_of_arms p f left v arms)
     jumping_arms core.no_arms left v around ids rows = tt
     jumping_arms (core.arm c vs b rest) left v around ids rows =
-        let ids2 = left_behind ids (ids_behind_block p f b (with_vars f vs ids)) in (
+        let ids2 = left_behind ids (ids_following_block p f b (with_vars f vs ids)) in (
           jumping_block b left around (with_vars f vs ids) (each_left (block_rows p f around (with_vars f vs ids) b) (arms_rows p f around ids2 rest) rows),
           jumping_arms rest left v around ids2 (each_right (block_rows p f around (with_vars f vs ids) b) (arms_rows p f around ids2 rest) rows),
         )

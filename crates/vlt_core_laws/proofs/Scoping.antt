@@ -21,7 +21,7 @@ pub record Covers (f : Func) (g : Tok → Bool) (ids : Ids) : Type 0 where
   pub keys : (k : ℕ) → has ids.keys k ≡ true → g (a_key k) ≡ true
   pub vars : (v : ℕ) → has ids.vars v ≡ true → g (a_var v) ≡ true
 
--- Behind a part the same holds, where the block's tokens are in scope. A variable that doesn't own always counts as in scope.
+-- Following a part the same holds, where the block's tokens are in scope. A variable that doesn't own always counts as in scope.
 pub covers_on : (f : Func) (g : Tok → Bool) (a b : Ids) → ((v : ℕ) → is_owning_var f v ≡ false → g (a_var v) ≡ true) → Goes f a b → Covers f g a →
     ((t : Tok) → IsToken f t → is_bound b.bound t ≡ true → g t ≡ true) → Covers f g b
 covers_on f g a b others q c last = record {

@@ -284,7 +284,7 @@ head_good s rs t b S pl fr w f p o z =
 -- the notes stand for what A and B have, where it is of one kind
 pub record Reads (a : Notes) (A B : Tok → ℕ → Ones) : Type 0 where
   pub around : (t : Tok) (i : ℕ) → IsOneKind (A t i) → IsJust (a.around i t) (A t i)
-  pub behind : (t : Tok) (i : ℕ) → IsOneKind (B t i) → IsJust (a.behind i t) (B t i)
+  pub following : (t : Tok) (i : ℕ) → IsOneKind (B t i) → IsJust (a.following i t) (B t i)
 
 shown_at : (u : Status) (T V : Ones) → IsSameOnes T V → (IsOneKind T → IsJust u T) → IsOneKind V → IsJust u V
 shown_at u T V z f k = let j = f (λ o o' x y. k o o' (z.there o x) (z.there o' y)) in record { there = λ o x. j.there o (z.back o x); back = λ o x. z.there o (j.back o x) }
@@ -293,18 +293,18 @@ mutual
   pub shows : (s : Flow) (a : Notes) (n : ℕ) (S : Every) (b : Tok → Bool) (A B : Tok → ℕ → Ones) → IsTame s → HasFilled s → ((t : Tok) (o : One) → S t o → IsGood (b t) t o) → ((t : Tok) → HasFault t s (S t) → ⊥) → ((t : Tok) → Fits (A t) (B t) t s n (S t)) → Reads a A B → Shows a n S s
   shows (step rs) a n S b A B w f p never z r = tt
   shows (choose rs u v) a n S b A B w f p never z r = (
-    λ e t. shown_at (a.behind n t) (B t n) (out t (choose rs u v) (S t) to_next) (z t).0 (r.behind t n) (one_kind_of (b t) t (out t (choose rs u v) (S t) to_next) (good_form (choose rs u v) t (b t) (S t) w f (p t) to_next) (λ x. never t (inr (inr (inr x))))),
+    λ e t. shown_at (a.following n t) (B t n) (out t (choose rs u v) (S t) to_next) (z t).0 (r.following t n) (one_kind_of (b t) t (out t (choose rs u v) (S t) to_next) (good_form (choose rs u v) t (b t) (S t) w f (p t) to_next) (λ x. never t (inr (inr (inr x))))),
     shows_block u a (n + 1) (λ t. images t rs (S t)) b A B w.1 f.1 (λ t. rows_good t rs (b t) (S t) w.0 f.0 (p t)) (λ t x. never t (inr (inl x))) (λ t. (z t).1) r,
     shows_block v a (n + 1 + size_block u) (λ t. images t rs (S t)) b A B w.2 f.2 (λ t. rows_good t rs (b t) (S t) w.0 f.0 (p t)) (λ t x. never t (inr (inr (inl x)))) (λ t. (z t).2) r,
   )
   shows (loop rs s) a n S b A B w f p never z r =
       let top = λ (t : Tok). head_good s rs t (b t) (S t) w.0 f.0 w.1 f.1 (p t) in (
         λ t. shown_at (a.around n t) (A t n) (head_of t rs s (S t)) (z t).0 (r.around t n) (one_kind_of (b t) t (head_of t rs s (S t)) (top t) (λ x. never t (inl x))),
-        λ t. shown_at (a.behind n t) (B t n) (out t (loop rs s) (S t) to_next) (z t).1 (r.behind t n) (one_kind_of (b t) t (out t (loop rs s) (S t) to_next) (good_form (loop rs s) t (b t) (S t) w f (p t) to_next) (λ x. never t (inr (inr (inr x))))),
+        λ t. shown_at (a.following n t) (B t n) (out t (loop rs s) (S t) to_next) (z t).1 (r.following t n) (one_kind_of (b t) t (out t (loop rs s) (S t) to_next) (good_form (loop rs s) t (b t) (S t) w f (p t) to_next) (λ x. never t (inr (inr (inr x))))),
         shows_block s a (n + 1) (λ t. images t rs (head_of t rs s (S t))) b A B w.1 f.1 (λ t. rows_good t rs (b t) (head_of t rs s (S t)) w.0 f.0 (top t)) (λ t x. never t (inr (inr (inl x)))) (λ t. (z t).2) r,
       )
   shows (switch rs arms end) a n S b A B w f p never z r = (
-    λ e t. shown_at (a.behind n t) (B t n) (out t (switch rs arms end) (S t) to_next) (z t).0 (r.behind t n) (one_kind_of (b t) t (out t (switch rs arms end) (S t) to_next) (good_form (switch rs arms end) t (b t) (S t) w f (p t) to_next) (λ x. never t (inr (inr x)))),
+    λ e t. shown_at (a.following n t) (B t n) (out t (switch rs arms end) (S t) to_next) (z t).0 (r.following t n) (one_kind_of (b t) t (out t (switch rs arms end) (S t) to_next) (good_form (switch rs arms end) t (b t) (S t) w f (p t) to_next) (λ x. never t (inr (inr x)))),
     shows_arms arms a (n + 1) (λ t. images t rs (S t)) b A B w.1 f.1 (λ t. rows_good t rs (b t) (S t) w.0 f.0 (p t)) (λ t x. never t (inr (inl x))) (λ t. (z t).1) r,
   )
   shows (scope s) a n S b A B w f p never z r = shows_block s a (n + 1) S b A B w f p never z r
@@ -333,12 +333,12 @@ mutual
 
 -- ---- a whole body
 
-fits_found : (t : Tok) (s : Block) (S : Ones) (k : Stock) → IsFoundIn t s S k → FitsBlock (λ i. In (k.around i)) (λ i. In (k.behind i)) t s 0 S
-fits_found t s S k f = fits_block s (λ i. In (k.around i)) (λ i. In (k.behind i)) t 0 S
+fits_found : (t : Tok) (s : Block) (S : Ones) (k : Stock) → IsFoundIn t s S k → FitsBlock (λ i. In (k.around i)) (λ i. In (k.following i)) t s 0 S
+fits_found t s S k f = fits_block s (λ i. In (k.around i)) (λ i. In (k.following i)) t 0 S
     (record { there = λ i o p q x. (f.around i o).0 x; back = λ i o x. (f.around i o).1 x })
-    (record { there = λ i o p q x. (f.behind i o).0 x; back = λ i o x. (f.behind i o).1 x })
+    (record { there = λ i o p q x. (f.following i o).0 x; back = λ i o x. (f.following i o).1 x })
 
 pub faultless_local : (s : Block) (k : Tok → Stock) (a : Notes) (h : HeldMap) → IsFit s → IsStart h → ((t : Tok) → IsFoundIn t s (Has (h t)) (k t)) → IsReadOf a k → ((t : Tok) → HasFaultBlock t s (Has (h t)) → ⊥) → IsLocalBlock a None 0 h s
 faultless_local s k a h fit start f r never =
-    let w = shows_block s a 0 (λ t. Has (h t)) (λ t. false) (λ t i. In ((k t).around i)) (λ t i. In ((k t).behind i)) fit.tame fit.filled start.good never (λ t. fits_found t s (Has (h t)) (k t) (f t)) (record { around = r.around; behind = r.behind }) in
+    let w = shows_block s a 0 (λ t. Has (h t)) (λ t. false) (λ t i. In ((k t).around i)) (λ t i. In ((k t).following i)) fit.tame fit.filled start.good never (λ t. fits_found t s (Has (h t)) (k t) (f t)) (record { around = r.around; following = r.following }) in
     (faultless_block s a None 0 h (λ t. Has (h t)) fit.jumping fit.filled w (λ t. record { there = λ o x. x; back = λ o x. x; some = start.some t }) (record { breaks = λ t o x. tt; continues = λ t o x. tt }) never).0

@@ -91,8 +91,8 @@ module _ (p : Program) (f : Func) (ranged : (v k : ℕ) → has (type_keys f v) 
     tracked_keys : (r x : ℕ) → tracked_broken f ids r x ≡ [] → KeysIn g f x
     tracked_keys r x b = use_keys x (left_empty (use_broken f ids x) _ b)
 
-    behind_keys : (ids2 : Ids) → Covers f g ids2 → AreTyped f ids2 → (x : ℕ) → has ids2.vars x ≡ true → KeysIn g f x
-    behind_keys ids2 covers2 typed2 x v k u = covers2.keys k (typed2.each x k v u)
+    following_keys : (ids2 : Ids) → Covers f g ids2 → AreTyped f ids2 → (x : ℕ) → has ids2.vars x ≡ true → KeysIn g f x
+    following_keys ids2 covers2 typed2 x v k u = covers2.keys k (typed2.each x k v u)
 
     owned_by : (v : ℕ) → use_broken f ids v ≡ [] → g (a_var v) ≡ true
     owned_by v u = covers.vars v (use_in p f g ids covers typed v u)
@@ -115,7 +115,7 @@ module _ (p : Program) (f : Func) (ranged : (v k : ℕ) → has (type_keys f v) 
         let front = left_empty (made_broken p (length args) (var_type f x) ++ operands_broken p f ids (made_types p (var_type f x)) args) made b in
         let there2 = binding_var f ranged ids (own_key f x) x (right_empty (made_broken p (length args) (var_type f x) ++ operands_broken p f ids (made_types p (var_type f x)) args) made b) in
         all_both (Good g) (operands_rows p f args) _ (operands_good p f g ids covers typed (made_types p (var_type f x)) args (right_empty (made_broken p (length args) (var_type f x)) _ front))
-        (key_good g f x _ _ (λ r e. made_good g r.key wants_absent _ tt (reference_in g f x (behind_keys (ids_after f (make x args) ids) c t x there2) r e) 0 (eq-eqb 0 0 refl)))
+        (key_good g f x _ _ (λ r e. made_good g r.key wants_absent _ tt (reference_in g f x (following_keys (ids_after f (make x args) ids) c t x there2) r e) 0 (eq-eqb 0 0 refl)))
     simple_good (become x state) b c t =
         key_good g f x _ _ (λ r e. made_good g r.key wants_held _ tt (reference_in g f x (tracked_keys rule.WRONG_BECOME x (left_empty (tracked_broken f ids rule.WRONG_BECOME x) _ b)) r e) state (eq-eqb state state refl))
     simple_good (release x) b c t = end_good g p f x (tracked_keys rule.WRONG_RELEASE x (left_empty (tracked_broken f ids rule.WRONG_RELEASE x) _ b))
@@ -131,7 +131,7 @@ module _ (p : Program) (f : Func) (ranged : (v k : ℕ) → has (type_keys f v) 
         let front = left_empty (use_broken f ids v ++ wanted_of (var_type f v) is_owning_object) _ (left_empty _ (objects_apart (owning_object (var_type f v)) (tracked_type (var_type f x))) (left_empty _ made b)) in (
           empty_good g v (owned_by v (left_empty (use_broken f ids v) _ front)),
           option_rows (Good g) (owning_states f v) _ (λ states e. key_good g f x _ _ (λ r q. let some = owned v states e in
-              made_good g r.key wants_absent states tt (reference_in g f x (behind_keys (ids_after f (unpack x v) ids) c t x there2) r q) some.state some.has)),
+              made_good g r.key wants_absent states tt (reference_in g f x (following_keys (ids_after f (unpack x v) ids) c t x there2) r q) some.state some.has)),
         )
     simple_good (build v case args) b c t =
         let front = left_empty _ (target_broken f ids v) b in
@@ -139,7 +139,7 @@ module _ (p : Program) (f : Func) (ranged : (v k : ℕ) → has (type_keys f v) 
         all_both (Good g) _ (fill_rows f (v ∷ []))
         (all_both (Good g) (operands_rows p f args) _ (operands_good p f g ids covers typed _ args (right_empty _ (operands_broken p f ids _ args) front))
         (option_rows (Good g) (variant_of f v) _ (λ ty e. case_keys_rows p ty case (Good g) _
-        (λ d k i x _ m _. gone_good g k _ (behind_keys (ids_after f (build v case args) ids) c t v there2 k (variant_keys f v ty e k m))))))
+        (λ d k i x _ m _. gone_good g k _ (following_keys (ids_after f (build v case args) ids) c t v there2 k (variant_keys f v ty e k m))))))
         (target_filled v (right_empty _ (target_broken f ids v) b) c)
     simple_good (swap x i v) b c t =
         let front = left_empty (tracked_broken f ids rule.WRONG_SWAP x ++ use_broken f ids v) (swap_broken p f x i v) b in

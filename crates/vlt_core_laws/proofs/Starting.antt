@@ -16,7 +16,7 @@ use Rattle.vlt_core.specs.Found.{One, one_absent, one_held, one_lent, one_full, 
 use Rattle.vlt_core.specs.Types.{keys_of_ty}
 use Rattle.vlt_core.specs.KindedHeads.{unless, has, is_bounded, is_bound_entry, keys_of_parameters, head_keys, keys_of_result, entry_broken, head_broken}
 use Rattle.vlt_core.specs.KindedScopes.{Ids, Around}
-use Rattle.vlt_core.specs.KindedBodies.{first_ids, ids_behind_stmts, stmts_rows, body_rows}
+use Rattle.vlt_core.specs.KindedBodies.{first_ids, ids_following_stmts, stmts_rows, body_rows}
 use Rattle.vlt_core.specs.Kinded.{HasKindedParts}
 use Rattle.vlt_core.specs.declared.rules.TheConstants as rule
 use Rattle.vlt_core_laws.specs.Scoped.{is_bound, with_bound, IsAbsentOut}
@@ -205,7 +205,7 @@ module _ (p : Program) (f : Func) (before_filled : IsFilledStart p f) where
     rows = subst (λ b. EachEmpty (if b then [] else stmts_rows p f (record { jumps = false; returns = true }) (first_ids p f) false f.body)) body rows_of_body
 
     abbrev last : Ids
-    last = ids_behind_stmts p f f.body (first_ids p f)
+    last = ids_following_stmts p f f.body (first_ids p f)
 
     params : count_of f ≡ f.params
     params = count_is f params_within

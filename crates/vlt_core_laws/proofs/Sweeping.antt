@@ -8,13 +8,13 @@ use Rattle.vlt_core_laws.specs.Sweep.{Many, In, Stock, IsMore, IsImage, IntoHead
 use Rattle.vlt_core_laws.proofs.Smooth.{Smooth, smooth_both, smooth_after, smooth_images, smooth_block, heads_closed}
 
 more_refl : (k : Stock) → IsMore k k
-more_refl k = record { around = λ i o x. x; behind = λ i o x. x }
+more_refl k = record { around = λ i o x. x; following = λ i o x. x }
 
 more_same : (k k' : Stock) → k' ≡ k → IsMore k k'
 more_same k k' e = subst (IsMore k) (sym e) (more_refl k)
 
 pub more_trans : (a b c : Stock) → IsMore a b → IsMore b c → IsMore a c
-more_trans a b c p q = record { around = λ i o x. q.around i o (p.around i o x); behind = λ i o x. q.behind i o (p.behind i o x) }
+more_trans a b c p q = record { around = λ i o x. q.around i o (p.around i o x); following = λ i o x. q.following i o (p.following i o x) }
 
 lands_more : (l : Option ℕ) (c : Bool) (m : Many) (k k' : Stock) → Lands l c m k k' → IsMore k k'
 lands_more None c m k k' e = more_same k k' e
@@ -57,14 +57,14 @@ mutual
 abbrev pub LandsIn : Option ℕ → Bool → Stock → One → Type 0
 LandsIn None c k o = Unit {0}
 LandsIn (Some l) true k o = In (k.around l) o
-LandsIn (Some l) false k o = In (k.behind l) o
+LandsIn (Some l) false k o = In (k.following l) o
 
 pub record IsHeld (l : Option ℕ) (r : Many) (k : Stock) (outs : Exit → Ones) (hs es : ℕ → Ones) : Type 0 where
   pub next : (o : One) → outs to_next o → In r o
   pub breaks : (o : One) → outs to_break o → LandsIn l false k o
   pub continues : (o : One) → outs to_continue o → LandsIn l true k o
   pub heads : (i : ℕ) (o : One) → hs i o → In (k.around i) o
-  pub exits : (i : ℕ) (o : One) → es i o → In (k.behind i) o
+  pub exits : (i : ℕ) (o : One) → es i o → In (k.following i) o
 
 image_in : (t : Tok) (rs : List Row) (S : Ones) (m p : Many) → IsImage t rs m p → ((o : One) → S o → In m o) → (o : One) → images t rs S o → In p o
 image_in t rs S m p e f o x = (e.each o).1 ((smooth_images t rs).more S (In m) f o x)
@@ -72,7 +72,7 @@ image_in t rs S m p e f o x = (e.each o).1 ((smooth_images t rs).more S (In m) f
 lands_in : (l : Option ℕ) (c : Bool) (m : Many) (k k' k0 : Stock) → Lands l c m k k' → IsMore k' k0 → (o : One) → In m o → LandsIn l c k0 o
 lands_in None c m k k' k0 w b o x = tt
 lands_in (Some l) true m k k' k0 w b o x = b.around l o (w.has o x)
-lands_in (Some l) false m k k' k0 w b o x = b.behind l o (w.has o x)
+lands_in (Some l) false m k k' k0 w b o x = b.following l o (w.has o x)
 
 jump_held : (c : Bool) (l : Option ℕ) (m r : Many) (k k' k0 : Stock) (P : Ones) → ((o : One) → P o → In m o) → Lands l c m k k' → IsMore k' k0 → IsHeld l r k0 (λ x. jumps c x P) (λ i o. ⊥) (λ i o. ⊥)
 jump_held true l m r k k' k0 P f w b = record { next = λ o x. absurd x; breaks = λ o x. absurd x; continues = λ o x. lands_in l true m k k' k0 w b o (f o x); heads = λ i o x. absurd x; exits = λ i o x. absurd x }
@@ -94,14 +94,14 @@ mutual
       let back1 = more_trans w.2 y.0 k0 (grows_block v t l (n + 1 + size_block u) w.2 w.0 y.0 y.1 y.2) back2 in
       let p = holds_block u t l (n + 1) k w.0 x.0 x.1 k0 (images t rs S) x.2 a (more_trans x.0 w.2 k0 x.3.more back1) g in
       let q = holds_block v t l (n + 1 + size_block u) w.2 w.0 y.0 y.1 k0 (images t rs S) y.2 (more_trans k0 k w.2 a up1) back2 g in
-      let way = λ (o : One) (z : out t (choose rs u v) S to_next o). ⊎_elim (λ z. back1.behind n o (x.3.has o (p.next o z))) (λ z. b.behind n o (y.3.has o (q.next o z))) z in
+      let way = λ (o : One) (z : out t (choose rs u v) S to_next o). ⊎_elim (λ z. back1.following n o (x.3.has o (p.next o z))) (λ z. b.following n o (y.3.has o (q.next o z))) z in
       let late = more_trans k0 k k' a (more_trans k w.2 k' up1 (more_trans w.2 y.0 k' (grows_block v t l (n + 1 + size_block u) w.2 w.0 y.0 y.1 y.2) y.3.more)) in
       record {
-        next = λ o z. subst (λ m. In m o) (sym w.5) (late.behind n o (way o z));
+        next = λ o z. subst (λ m. In m o) (sym w.5) (late.following n o (way o z));
         breaks = λ o z. ⊎_elim (p.breaks o) (q.breaks o) z;
         continues = λ o z. ⊎_elim (p.continues o) (q.continues o) z;
         heads = λ i o z. ⊎_elim (p.heads i o) (q.heads i o) z;
-        exits = λ i o z. ⊎_elim (λ z. subst (λ i. In (k0.behind i) o) (sym z.0) (way o z.1)) (⊎_elim (p.exits i o) (q.exits i o)) z;
+        exits = λ i o z. ⊎_elim (λ z. subst (λ i. In (k0.following i) o) (sym z.0) (way o z.1)) (⊎_elim (p.exits i o) (q.exits i o)) z;
       }
   holds (loop rs s) t l n k m k' r k0 S w a b f =
       let x = w.2 in
@@ -118,23 +118,23 @@ mutual
       ⊎_elim (λ z. b.around n o (x.7.has o ((body T g).next o z))) (λ z. (body T g).continues o z) z in
       let head = λ (o : One) (z : head_of t rs s S o). turns_in _ S (k0.around n) (λ o z. back1.around n o (w.1.has o (f o z))) round z.0 o z.1 in
       let all = body (head_of t rs s S) head in
-      let exit = λ (o : One) (z : out t (loop rs s) S to_next o). ⊎_elim (λ z. back2.behind n o (x.3.has o (inside (head_of t rs s S) head o z))) (λ z. all.breaks o z) z in
+      let exit = λ (o : One) (z : out t (loop rs s) S to_next o). ⊎_elim (λ z. back2.following n o (x.3.has o (inside (head_of t rs s S) head o z))) (λ z. all.breaks o z) z in
       record {
-        next = λ o z. subst (λ m. In m o) (sym w.3) (late.behind n o (exit o z));
+        next = λ o z. subst (λ m. In m o) (sym w.3) (late.following n o (exit o z));
         breaks = λ o z. absurd z;
         continues = λ o z. absurd z;
         heads = λ i o z. ⊎_elim (λ z. subst (λ i. In (k0.around i) o) (sym z.0) (head o z.1)) (all.heads i o) z;
-        exits = λ i o z. ⊎_elim (λ z. subst (λ i. In (k0.behind i) o) (sym z.0) (exit o z.1)) (all.exits i o) z;
+        exits = λ i o z. ⊎_elim (λ z. subst (λ i. In (k0.following i) o) (sym z.0) (exit o z.1)) (all.exits i o) z;
       }
   holds (switch rs arms end) t l n k m k' r k0 S w a b f =
-      let q = holds_arms arms t l n (n + 1) k w.0 k' k0 (images t rs S) w.2 a b (image_in t rs S m w.0 w.1 f) (k0.behind n) (λ o x. x) in
+      let q = holds_arms arms t l n (n + 1) k w.0 k' k0 (images t rs S) w.2 a b (image_in t rs S m w.0 w.1 f) (k0.following n) (λ o x. x) in
       let late = more_trans k0 k k' a (grows_arms arms t l n (n + 1) k w.0 k' w.2) in
       record {
-        next = λ o z. subst (λ m. In m o) (sym w.3) (late.behind n o (q.next o z));
+        next = λ o z. subst (λ m. In m o) (sym w.3) (late.following n o (q.next o z));
         breaks = q.breaks;
         continues = q.continues;
         heads = q.heads;
-        exits = λ i o z. ⊎_elim (λ z. subst (λ i. In (k0.behind i) o) (sym z.0) (q.next o z.1)) (q.exits i o) z;
+        exits = λ i o z. ⊎_elim (λ z. subst (λ i. In (k0.following i) o) (sym z.0) (q.next o z.1)) (q.exits i o) z;
       }
   holds (scope s) t l n k m k' r k0 S w a b f = let q = holds_block s t l (n + 1) k m k' r k0 S w a b f in record { next = q.next; breaks = q.breaks; continues = q.continues; heads = q.heads; exits = q.exits }
   holds (focus rs s es) t l n k m k' r k0 S w a b f =
@@ -163,7 +163,7 @@ mutual
         exits = λ i o z. ⊎_elim (p.exits i o) (q.exits i o) z;
       }
 
-  holds_arms : (arms : Arms) (t : Tok) (l : Option ℕ) (c n : ℕ) (k : Stock) (m : Many) (k' : Stock) (k0 : Stock) (S : Ones) → SweptArms t arms l c n k m k' → IsMore k0 k → IsMore k' k0 → ((o : One) → S o → In m o) → (r : Many) → ((o : One) → In (k0.behind c) o → In r o) → IsHeld l r k0 (out_arms t arms S) (found_head_arms t arms n S) (found_exit_arms t arms n S)
+  holds_arms : (arms : Arms) (t : Tok) (l : Option ℕ) (c n : ℕ) (k : Stock) (m : Many) (k' : Stock) (k0 : Stock) (S : Ones) → SweptArms t arms l c n k m k' → IsMore k0 k → IsMore k' k0 → ((o : One) → S o → In m o) → (r : Many) → ((o : One) → In (k0.following c) o → In r o) → IsHeld l r k0 (out_arms t arms S) (found_head_arms t arms n S) (found_exit_arms t arms n S)
   holds_arms no_arms t l c n k m k' k0 S w a b f r h = record { next = λ o x. absurd x; breaks = λ o x. absurd x; continues = λ o x. absurd x; heads = λ i o x. absurd x; exits = λ i o x. absurd x }
   holds_arms (arm rs s rest) t l c n k m k' k0 S w a b f r h =
       let x = w.3 in
@@ -173,7 +173,7 @@ mutual
       let p = holds_block s t l n k w.0 x.0 x.1 k0 (images t rs S) x.2 a (more_trans x.0 w.2 k0 x.3.more back) (image_in t rs S m w.0 w.1 f) in
       let q = holds_arms rest t l c (n + size_block s) w.2 m k' k0 S w.4 (more_trans k0 k w.2 a up) b f r h in
       record {
-        next = λ o z. ⊎_elim (λ z. h o (back.behind c o (x.3.has o (p.next o z)))) (q.next o) z;
+        next = λ o z. ⊎_elim (λ z. h o (back.following c o (x.3.has o (p.next o z)))) (q.next o) z;
         breaks = λ o z. ⊎_elim (p.breaks o) (q.breaks o) z;
         continues = λ o z. ⊎_elim (p.continues o) (q.continues o) z;
         heads = λ i o z. ⊎_elim (p.heads i o) (q.heads i o) z;
@@ -186,7 +186,7 @@ pub record IsSameOnes (S T : Ones) : Type 0 where
   pub there : (o : One) → S o → T o
   pub back : (o : One) → T o → S o
 
--- what may be kept at the heads and behind, by statement, is just what the part finds when P comes in
+-- what may be kept at the heads and after, by statement, is just what the part finds when P comes in
 abbrev mutual
   pub Fits : (ℕ → Ones) → (ℕ → Ones) → Tok → Flow → ℕ → Ones → Type 0
   Fits A B t (step rs) n P = Unit {0}
@@ -213,7 +213,7 @@ abbrev mutual
 
 record IsUnder (A B : ℕ → Ones) (k : Stock) : Type 0 where
   pub around : (i : ℕ) (o : One) → In (k.around i) o → A i o
-  pub behind : (i : ℕ) (o : One) → In (k.behind i) o → B i o
+  pub following : (i : ℕ) (o : One) → In (k.following i) o → B i o
 
 under_same : (A B : ℕ → Ones) (k k' : Stock) → k' ≡ k → IsUnder A B k → IsUnder A B k'
 under_same A B k k' e u = subst (IsUnder A B) (sym e) u
@@ -221,13 +221,13 @@ under_same A B k k' e u = subst (IsUnder A B) (sym e) u
 under_head : (A B : ℕ → Ones) (n : ℕ) (m : Many) (k k' : Stock) → IntoHead n m k k' → IsUnder A B k → ((o : One) → In m o → A n o) → IsUnder A B k'
 under_head A B n m k k' e u f = record {
   around = λ i o x. ⊎_elim (u.around i o) (λ y. subst (λ i. A i o) (sym y.0) (f o y.1)) (e.comes i o x);
-  behind = λ i o x. u.behind i o (e.others i o x);
+  following = λ i o x. u.following i o (e.others i o x);
 }
 
 under_exit : (A B : ℕ → Ones) (n : ℕ) (m : Many) (k k' : Stock) → IntoExit n m k k' → IsUnder A B k → ((o : One) → In m o → B n o) → IsUnder A B k'
 under_exit A B n m k k' e u f = record {
   around = λ i o x. u.around i o (e.others i o x);
-  behind = λ i o x. ⊎_elim (u.behind i o) (λ y. subst (λ i. B i o) (sym y.0) (f o y.1)) (e.comes i o x);
+  following = λ i o x. ⊎_elim (u.following i o) (λ y. subst (λ i. B i o) (sym y.0) (f o y.1)) (e.comes i o x);
 }
 
 -- what comes out by a jump may be kept
@@ -267,7 +267,7 @@ mutual
       let u1 = under_exit A B n x.1 x.0 w.2 x.3 p.under (λ o q. z.0.back o (inl (p.comes o q))) in
       let q = sound_block b A B t l (n + 1 + size_block a) w.2 w.0 y.0 y.1 (images t rs P) y.2 z.2 u1 g (record { breaks = λ o q. j.breaks o (inr q); continues = λ o q. j.continues o (inr q) }) in
       let u2 = under_exit A B n y.1 y.0 k' y.3 q.under (λ o v. z.0.back o (inr (q.comes o v))) in
-      record { under = u2; comes = λ o v. z.0.there o (u2.behind n o (subst (λ m. In m o) w.5 v)) }
+      record { under = u2; comes = λ o v. z.0.there o (u2.following n o (subst (λ m. In m o) w.5 v)) }
   sound (loop rs s) A B t l n k m k' r P w z u f j =
       let x = w.2 in
       let u1 = under_head A B n m k w.0 w.1 u (λ o v. z.0.back o (zero, f o v)) in
@@ -276,10 +276,10 @@ mutual
       let closed = heads_closed _ (smooth_round t rs s) P in
       let p = sound_block s A B t (Some n) (n + 1) x.2 x.0 x.4 x.5 (images t rs (head_of t rs s P)) x.6 z.2 u2 g (record { breaks = λ o v. z.1.back o (inr v); continues = λ o v. z.0.back o (closed o (inr v)) }) in
       let u3 = under_head A B n x.5 x.4 k' x.7 p.under (λ o v. z.0.back o (closed o (inl (p.comes o v)))) in
-      record { under = u3; comes = λ o v. z.1.there o (u3.behind n o (subst (λ m. In m o) w.3 v)) }
+      record { under = u3; comes = λ o v. z.1.there o (u3.following n o (subst (λ m. In m o) w.3 v)) }
   sound (switch rs arms end) A B t l n k m k' r P w z u f j =
       let u1 = sound_arms arms A B t l n (n + 1) k w.0 k' (images t rs P) w.2 z.1 u (of_image t rs P m w.0 w.1 f) (record { breaks = j.breaks; continues = j.continues }) (λ o v. z.0.back o v) in
-      record { under = u1; comes = λ o v. z.0.there o (u1.behind n o (subst (λ m. In m o) w.3 v)) }
+      record { under = u1; comes = λ o v. z.0.there o (u1.following n o (subst (λ m. In m o) w.3 v)) }
   sound (scope s) A B t l n k m k' r P w z u f j = let p = sound_block s A B t l (n + 1) k m k' r P w z u f (record { breaks = j.breaks; continues = j.continues }) in record { under = p.under; comes = p.comes }
   sound (focus rs s es) A B t l n k m k' r P w z u f j =
       let p = sound_block s A B t l (n + 1) k w.0 k' w.2 (images t rs P) w.3 z u (of_image t rs P m w.0 w.1 f) (record { breaks = j.breaks; continues = j.continues }) in
@@ -468,11 +468,11 @@ reached s t S k m k' r w f u =
     let A = found_head_block t s 0 S in
     let B = found_exit_block t s 0 S in
     let z = fits_block s A B t 0 S (record { there = λ i o p q x. x; back = λ i o x. x }) (record { there = λ i o p q x. x; back = λ i o x. x }) in
-    let p = sound_block s A B t None 0 k m k' r S w z (record { around = u.around; behind = u.behind }) f (record { breaks = λ o x. tt; continues = λ o x. tt }) in
-    record { around = p.under.around; behind = p.under.behind }
+    let p = sound_block s A B t None 0 k m k' r S w z (record { around = u.around; following = u.following }) f (record { breaks = λ o x. tt; continues = λ o x. tt }) in
+    record { around = p.under.around; following = p.under.following }
 
 -- After a sweep that keeps nothing new, each table holds just what is found.
 pub found : (s : Block) (t : Tok) (S : Ones) (k : Stock) (m : Many) (r : Many) → SweptBlock t s None 0 k m k r → ((o : One) → In m o ↔ S o) → IsReached t s S k → IsFoundIn t s S k
 found s t S k m r w f u =
     let q = holds_block s t None 0 k m k r k S w (more_refl k) (more_refl k) (λ o x. (f o).1 x) in
-    record { around = λ i o. (u.around i o, q.heads i o); behind = λ i o. (u.behind i o, q.exits i o) }
+    record { around = λ i o. (u.around i o, q.heads i o); following = λ i o. (u.following i o, q.exits i o) }

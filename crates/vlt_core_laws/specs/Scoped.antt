@@ -44,12 +44,12 @@ AreInScope g (r ∷ rs) = (g r.tok ≡ true) × AreInScope g rs
 abbrev pub within : (Tok → Bool) → Block → Tok → Bool
 within g (block ss bound end) = with_bound g bound
 
--- behind these rows the token is absent
+-- after these rows the token is absent
 abbrev pub LeavesAbsent : Tok → List Row → Type 0
 LeavesAbsent x rs = (h : HeldMap) → map_after rs h x ≡ absent
 
 -- Rows name tokens in scope, those of returns aside; a block binds new ones, and an arm's rows may name them; a focus has a
--- token of its own, which is absent behind it, and doesn't end; no statement stands behind one that ends.
+-- token of its own, which is absent after it, and doesn't end; no statement stands after one that ends.
 abbrev mutual
   pub IsScoped : (Tok → Bool) → Flow → Type 0
   IsScoped g (step rs) = AreInScope g rs

@@ -26,20 +26,20 @@ Every = Tok → Ones
 abbrev pub AreJust : HeldMap → Every → Type 0
 AreJust h S = (t : Tok) → IsJust (h t) (S t)
 
--- The notes show what is found at the heads and behind, where something comes.
+-- The notes show what is found at the heads and after, where something comes.
 abbrev mutual
   pub Shows : Notes → ℕ → Every → Flow → Type 0
   Shows a n S (step rs) = Unit {0}
   Shows a n S (choose rs s u) =
-      (passes (choose rs s u) ≡ true → AreJust (a.behind n) (λ t. out t (choose rs s u) (S t) to_next)) ×
+      (passes (choose rs s u) ≡ true → AreJust (a.following n) (λ t. out t (choose rs s u) (S t) to_next)) ×
       ShowsBlock a (n + 1) (λ t. images t rs (S t)) s ×
       ShowsBlock a (n + 1 + size_block s) (λ t. images t rs (S t)) u
   Shows a n S (loop rs s) =
       AreJust (a.around n) (λ t. head_of t rs s (S t)) ×
-      AreJust (a.behind n) (λ t. out t (loop rs s) (S t) to_next) ×
+      AreJust (a.following n) (λ t. out t (loop rs s) (S t) to_next) ×
       ShowsBlock a (n + 1) (λ t. images t rs (head_of t rs s (S t))) s
   Shows a n S (switch rs arms end) =
-      (passes (switch rs arms end) ≡ true → AreJust (a.behind n) (λ t. out t (switch rs arms end) (S t) to_next)) ×
+      (passes (switch rs arms end) ≡ true → AreJust (a.following n) (λ t. out t (switch rs arms end) (S t) to_next)) ×
       ShowsArms a (n + 1) (λ t. images t rs (S t)) arms
   Shows a n S (scope s) = ShowsBlock a (n + 1) S s
   Shows a n S (focus rs s es) = ShowsBlock a (n + 1) (λ t. images t rs (S t)) s
@@ -123,7 +123,7 @@ IsOneKind S = (o o' : One) → S o → S o' → one_kind o ≡ one_kind o'
 -- the notes read the tables of each token, where they are of one kind
 pub record IsReadOf (a : Notes) (k : Tok → Stock) : Type 0 where
   pub around : (t : Tok) (i : ℕ) → IsOneKind (In ((k t).around i)) → IsJust (a.around i t) (In ((k t).around i))
-  pub behind : (t : Tok) (i : ℕ) → IsOneKind (In ((k t).behind i)) → IsJust (a.behind i t) (In ((k t).behind i))
+  pub following : (t : Tok) (i : ℕ) → IsOneKind (In ((k t).following i)) → IsJust (a.following i t) (In ((k t).following i))
 
 -- a start: each status has a state, none is lent, and each is of its token's kind
 pub record IsStart (h : HeldMap) : Type 0 where

@@ -12,14 +12,14 @@ Many = One → Bool
 abbrev pub In : Many → Ones
 In m o = IsTrue (m o)
 
--- the tables kept: at the heads of loops, and behind loops and choices, by statement
+-- the tables kept: at the heads of loops, and after loops and choices, by statement
 pub record Stock : Type 0 where
   pub around : ℕ → Many
-  pub behind : ℕ → Many
+  pub following : ℕ → Many
 
 pub record IsMore (k k' : Stock) : Type 0 where
   pub around : (i : ℕ) (o : One) → In (k.around i) o → In (k'.around i) o
-  pub behind : (i : ℕ) (o : One) → In (k.behind i) o → In (k'.behind i) o
+  pub following : (i : ℕ) (o : One) → In (k.following i) o → In (k'.following i) o
 
 -- what the rows leave
 pub record IsImage (t : Tok) (rs : List Row) (m m' : Many) : Type 0 where
@@ -33,13 +33,13 @@ pub record IntoHead (n : ℕ) (m : Many) (k k' : Stock) : Type 0 where
   pub more : IsMore k k'
   pub has : (o : One) → In m o → In (k'.around n) o
   pub comes : (i : ℕ) (o : One) → In (k'.around i) o → In (k.around i) o ⊎ ((i ≡ n) × In m o)
-  pub others : (i : ℕ) (o : One) → In (k'.behind i) o → In (k.behind i) o
+  pub others : (i : ℕ) (o : One) → In (k'.following i) o → In (k.following i) o
 
--- united with the table behind statement n
+-- united with the table after statement n
 pub record IntoExit (n : ℕ) (m : Many) (k k' : Stock) : Type 0 where
   pub more : IsMore k k'
-  pub has : (o : One) → In m o → In (k'.behind n) o
-  pub comes : (i : ℕ) (o : One) → In (k'.behind i) o → In (k.behind i) o ⊎ ((i ≡ n) × In m o)
+  pub has : (o : One) → In m o → In (k'.following n) o
+  pub comes : (i : ℕ) (o : One) → In (k'.following i) o → In (k.following i) o ⊎ ((i ≡ n) × In m o)
   pub others : (i : ℕ) (o : One) → In (k'.around i) o → In (k.around i) o
 
 abbrev pub Lands : Option ℕ → Bool → Many → Stock → Stock → Type 0
@@ -66,9 +66,9 @@ abbrev mutual
   pub Swept : Tok → Flow → Option ℕ → ℕ → Stock → Many → Stock → Many → Type 0
   Swept t (step rs) l n k m k' r = (k' ≡ k) × IsImage t rs m r
   Swept t (choose rs a b) l n k m k' r =
-      (p : Many) × IsImage t rs m p × (k1 : Stock) × WayBy (SweptBlock t a l (n + 1)) n k p k1 × WayBy (SweptBlock t b l (n + 1 + size_block a)) n k1 p k' × (r ≡ k'.behind n)
-  Swept t (loop rs s) l n k m k' r = (k1 : Stock) × IntoHead n m k k1 × TurnBy (SweptBlock t s (Some n) (n + 1)) t rs n k1 k' × (r ≡ k'.behind n)
-  Swept t (switch rs arms end) l n k m k' r = (p : Many) × IsImage t rs m p × SweptArms t arms l n (n + 1) k p k' × (r ≡ k'.behind n)
+      (p : Many) × IsImage t rs m p × (k1 : Stock) × WayBy (SweptBlock t a l (n + 1)) n k p k1 × WayBy (SweptBlock t b l (n + 1 + size_block a)) n k1 p k' × (r ≡ k'.following n)
+  Swept t (loop rs s) l n k m k' r = (k1 : Stock) × IntoHead n m k k1 × TurnBy (SweptBlock t s (Some n) (n + 1)) t rs n k1 k' × (r ≡ k'.following n)
+  Swept t (switch rs arms end) l n k m k' r = (p : Many) × IsImage t rs m p × SweptArms t arms l n (n + 1) k p k' × (r ≡ k'.following n)
   Swept t (scope s) l n k m k' r = SweptBlock t s l (n + 1) k m k' r
   Swept t (focus rs s es) l n k m k' r = (p : Many) × IsImage t rs m p × (e : Many) × SweptBlock t s l (n + 1) k p k' e × IsImage t es e r
   Swept t (return rs) l n k m k' r = (k' ≡ k) × IsNothing r
@@ -86,7 +86,7 @@ abbrev mutual
   SweptArms t (arm rs s rest) l c n k m k' =
       (p : Many) × IsImage t rs m p × (k1 : Stock) × WayBy (SweptBlock t s l n) c k p k1 × SweptArms t rest l c (n + size_block s) k1 m k'
 
--- ---- what is found at the head of a loop and behind a loop or a choice, by statement
+-- ---- what is found at the head of a loop and after a loop or a choice, by statement
 
 abbrev mutual
   pub found_head : Tok → Flow → ℕ → Ones → ℕ → Ones
@@ -135,9 +135,9 @@ abbrev mutual
 -- each table holds just what is found there
 pub record IsFoundIn (t : Tok) (s : Block) (S : Ones) (k : Stock) : Type 0 where
   pub around : (i : ℕ) (o : One) → In (k.around i) o ↔ found_head_block t s 0 S i o
-  pub behind : (i : ℕ) (o : One) → In (k.behind i) o ↔ found_exit_block t s 0 S i o
+  pub following : (i : ℕ) (o : One) → In (k.following i) o ↔ found_exit_block t s 0 S i o
 
 -- no table holds more than what is found
 pub record IsReached (t : Tok) (s : Block) (S : Ones) (k : Stock) : Type 0 where
   pub around : (i : ℕ) (o : One) → In (k.around i) o → found_head_block t s 0 S i o
-  pub behind : (i : ℕ) (o : One) → In (k.behind i) o → found_exit_block t s 0 S i o
+  pub following : (i : ℕ) (o : One) → In (k.following i) o → found_exit_block t s 0 S i o

@@ -24,7 +24,7 @@ use Rattle.vlt_acts.specs.declared.values.values.Values.{Values}
 use Rattle.vlt_acts.specs.Values.Parts.{IsObject}
 use Rattle.vlt_acts.specs.Values.Shown.{Seen, key_at}
 use Rattle.vlt_acts.proofs.OfValues.Touching.{so_is, object_is}
-use Rattle.vlt_acts.proofs.OfValues.Fronts.{IsSlotAt, has_part, behind, Behind, same_object}
+use Rattle.vlt_acts.proofs.OfValues.Fronts.{IsSlotAt, has_part, following, Following, same_object}
 use Rattle.vlt_acts.specs.Acts.Acts.{Shows}
 use Rattle.vlt_acts.proofs.OfActs.Keeping.{frame_kept}
 use Rattle.vlt_acts.proofs.OfActs.Showing.{one_shown}
@@ -34,8 +34,8 @@ use Rattle.vlt_externals.specs.Sent.{ShowsAll, CanGo, Goes, IsNamed, AreNamed, t
 -- ---- one object
 
 module _ (h : Heap) (o : Obj) (g : CanGo h o) where
-  at_it : Behind g.items g.width g.number g.root.object
-  at_it = behind g.items g.width g.number g.objects g.root.object g.shown g.root.at g.root.live
+  at_it : Following g.items g.width g.number g.root.object
+  at_it = following g.items g.width g.number g.objects g.root.object g.shown g.root.at g.root.live
 
   pub go_live : IsLive h o
   go_live = subst (IsLiveAt h.places) (g.made.place at_it.item at_it.at) (live_at h g.items g.holds g.number at_it.item at_it.at)
@@ -48,7 +48,7 @@ module _ (h : Heap) (o : Obj) (g : CanGo h o) where
 
 pub goes_out : (old new : Heap) (o : Obj) → Changes o (with_out true) old new → Goes o old new
 goes_out old new o changes items width objects n holds shown root made =
-    let b = behind items width n objects root.object shown root.at root.live in
+    let b = following items width n objects root.object shown root.at root.live in
     let keep = kept_with items n b.item (with_out true b.item) b.at refl in
     record {
       items = with_item n (with_out true b.item) items;

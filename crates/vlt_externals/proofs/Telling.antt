@@ -57,7 +57,7 @@ pub tells_none : (values : Values) (from n : ℕ) (line : List ℕ) → n ≡ 0 
 tells_none values from n line e items [] are = sym (append-nil line)
 tells_none values from n line e items (a ∷ args) are = let l = are.count_is in absurd (omega (arith, l, e))
 
--- the arguments behind the first one
+-- the arguments after the first one
 pub rest_are : (items : Items) (values : Values) (from n : ℕ) (p : Part) (rest : List Value) → AreArgs items values from (suc n) (one p ∷ rest) → AreArgs items values (from + values.width) n rest
 rest_are items values from n p rest are = record { count_is = (let l = are.count_is in omega (arith, l)); single = are.single; at = are.at.1 }
 

@@ -7,5 +7,5 @@ mod pieces;
 mod whole;
 
 pub use numbers::{below, number, state};
-pub use pieces::{Piece, behind_entries, behind_keys, entry_state, is_held_after, read_piece};
+pub use pieces::{Piece, after_entries, entry_state, following_keys, is_held_after, read_piece};
 pub use whole::{CaseRead, fitting, read_case};

@@ -1,4 +1,4 @@
-//! Calls of externals as a whole: arguments that stand behind the frame in; the event out, and what the answer says done.
+//! Calls of externals as a whole: arguments that stand after the frame in; the event out, and what the answer says done.
 //! Read `vlt_meaning/specs/Externals.antt` first, then `specs/HostCalls/Called.antt`.
 //! Used by: the machine of runs, `vlt_interp`.
 
@@ -106,7 +106,7 @@ fn call_instance<K: Sink>(
     }
 }
 
-/// Calls an external, the values of whose arguments stand behind the frame.
+/// Calls an external, the values of whose arguments stand after the frame.
 ///
 /// # Errors
 ///

@@ -13,7 +13,7 @@ mod sending;
 
 pub use backs::{set_state, take_back};
 pub use events::{call_line, take_answer};
-pub use host_answers::{behind_entries, below, number};
+pub use host_answers::{after_entries, below, number};
 pub use host_calls::call_external;
 pub use keys::caller_key;
 pub use sending::{send_owned, send_taken};

@@ -38,7 +38,7 @@ pub fn found(
     ensures found { IfOk result (λ k. IsFoundIn (tok_of tok) (block_view body.now)
         (In (many_of m)) (stock_of k)) }
     ensures around { IfOk result (λ k. length k.around ≡ count) }
-    ensures behind { IfOk result (λ k. length k.behind ≡ count) }
+    ensures following { IfOk result (λ k. length k.following ≡ count) }
 {
     let mut kept = Tables::open(alloc, count)?;
     spread(&mut kept, tok, body, m);

@@ -39,18 +39,18 @@ grown_some (Some h) None s g = absurd g
 grown_some (Some h) (Some k) s g = s
 
 pub slot_refl : (i : ℕ) (x : Marks) → IsGrownSlot i x x
-slot_refl i x = record { around = grown_refl (slot x.around i); behind = grown_refl (slot x.behind i) }
+slot_refl i x = record { around = grown_refl (slot x.around i); following = grown_refl (slot x.following i) }
 
 pub slot_trans : (i : ℕ) (x y z : Marks) → IsGrownSlot i x y → IsGrownSlot i y z → IsGrownSlot i x z
-slot_trans i x y z p q = record { around = grown_trans _ _ _ p.around q.around; behind = grown_trans _ _ _ p.behind q.behind }
+slot_trans i x y z p q = record { around = grown_trans _ _ _ p.around q.around; following = grown_trans _ _ _ p.following q.following }
 
 pub same_trans : (i : ℕ) (x y z : Marks) → IsSameAt i x y → IsSameAt i y z → IsSameAt i x z
-same_trans i x y z p q = record { around = q.around ∙ p.around; behind = q.behind ∙ p.behind }
+same_trans i x y z p q = record { around = q.around ∙ p.around; following = q.following ∙ p.following }
 
 pub same_slot : (i : ℕ) (x y : Marks) → IsSameAt i x y → IsGrownSlot i x y
 same_slot i x y p = record {
   around = subst (Grown (slot x.around i)) (sym p.around) (grown_refl (slot x.around i));
-  behind = subst (Grown (slot x.behind i)) (sym p.behind) (grown_refl (slot x.behind i));
+  following = subst (Grown (slot x.following i)) (sym p.following) (grown_refl (slot x.following i));
 }
 
 for_loop : (l : Option ℕ) (P Q : ℕ → Type 0) → ((i : ℕ) → P i → Q i) → ForLoop l P → ForLoop l Q
@@ -68,9 +68,9 @@ for_both (Some i) P Q R f p q = f i p q
 pub frame_refl : (l k : Option ℕ) (n m : ℕ) (x : Marks) → IsFrame l k n m x x
 frame_refl l k n m x = record {
   long = refl;
-  long_behind = refl;
-  before = λ i p q r. record { around = refl; behind = refl };
-  after = λ i p q r. record { around = refl; behind = refl };
+  long_after = refl;
+  before = λ i p q r. record { around = refl; following = refl };
+  after = λ i p q r. record { around = refl; following = refl };
   loop = for_any l (λ i. IsGrownSlot i x x) (λ i. slot_refl i x);
   join = for_any k (λ i. IsGrownSlot i x x) (λ i. slot_refl i x);
 }
@@ -78,7 +78,7 @@ frame_refl l k n m x = record {
 pub frame_trans : (l k : Option ℕ) (n m : ℕ) (x y z : Marks) → IsFrame l k n m x y → IsFrame l k n m y z → IsFrame l k n m x z
 frame_trans l k n m x y z p q = record {
   long = q.long ∙ p.long;
-  long_behind = q.long_behind ∙ p.long_behind;
+  long_after = q.long_after ∙ p.long_after;
   before = λ i a b c. same_trans i x y z (p.before i a b c) (q.before i a b c);
   after = λ i a b c. same_trans i x y z (p.after i a b c) (q.after i a b c);
   loop = for_both l (λ i. IsGrownSlot i x y) (λ i. IsGrownSlot i y z) (λ i. IsGrownSlot i x z) (λ i a b. slot_trans i x y z a b) p.loop q.loop;
@@ -88,7 +88,7 @@ frame_trans l k n m x y z p q = record {
 pub frame_wider : (l k : Option ℕ) (n m n' m' : ℕ) (x y : Marks) → n' ≤ n → m ≤ m' → IsFrame l k n m x y → IsFrame l k n' m' x y
 frame_wider l k n m n' m' x y a b p = record {
   long = p.long;
-  long_behind = p.long_behind;
+  long_after = p.long_after;
   before = λ i u v w. p.before i (omega arith) v w;
   after = λ i u v w. p.after i (omega arith) v w;
   loop = p.loop;
@@ -99,7 +99,7 @@ frame_wider l k n m n' m' x y a b p = record {
 pub frame_choice : (l : Option ℕ) (k n m n' : ℕ) (x y : Marks) → n' ≤ n → n' ≤ k → k < m → IsFrame l (Some k) n m x y → IsFrame l None n' m x y
 frame_choice l k n m n' x y a b c p = record {
   long = p.long;
-  long_behind = p.long_behind;
+  long_after = p.long_after;
   before = λ i u v w. p.before i (omega arith) v (omega arith);
   after = λ i u v w. p.after i u v (omega arith);
   loop = p.loop;
@@ -116,7 +116,7 @@ elsewhere k n m j x y p o f = ⊎_elim
 pub frame_loop : (l : Option ℕ) (k n m n' : ℕ) (x y : Marks) → n' ≤ n → n' ≤ k → k < m → ((i : ℕ) → n' ≤ i → i < m → IsOther i l) → IsFrame (Some k) None n m x y → IsFrame l None n' m x y
 frame_loop l k n m n' x y a b c apart p = record {
   long = p.long;
-  long_behind = p.long_behind;
+  long_after = p.long_after;
   before = λ i u v w. p.before i (omega arith) (omega arith) tt;
   after = λ i u v w. p.after i u (omega arith) tt;
   loop = at_loop l apart;
@@ -127,11 +127,11 @@ frame_loop l k n m n' x y a b c apart p = record {
     at_loop None f = tt
     at_loop (Some j) f = elsewhere k n m j x y p (λ e. f k b c (sym e)) (λ u v. f j (omega arith) v refl)
 
--- the annotations of both agree on the statements that are before or behind
+-- the annotations of both agree on the statements that are before or after
 pub frame_before : (l k : Option ℕ) (n m a b : ℕ) (x y : Marks) → IsFrame l k n m x y → b ≤ n → ((i : ℕ) → a ≤ i → i < b → IsOther i l) → ((i : ℕ) → a ≤ i → i < b → IsOther i k) → IsSameOn (notes_of x) (notes_of y) a b
 frame_before l k n m a b x y f le p q = record {
   around = λ i u v. ap map_in (sym (f.before i (omega arith) (p i u v) (q i u v)).around);
-  behind = λ i u v. ap map_in (sym (f.before i (omega arith) (p i u v) (q i u v)).behind);
+  following = λ i u v. ap map_in (sym (f.before i (omega arith) (p i u v) (q i u v)).following);
 }
 
 -- what met the loop's maps still does
@@ -141,19 +141,19 @@ frame_meets (Some i) k n m x y f room = record { each = one }
   where
     one : (c : Bool) (h : HeldMap) → Meets (notes_of x) (Some i) c h → Meets (notes_of y) (Some i) c h
     one true h p = map_trans h _ _ p (grown_below _ _ room.around f.loop.around)
-    one false h p = map_trans h _ _ p (grown_below _ _ room.behind f.loop.behind)
+    one false h p = map_trans h _ _ p (grown_below _ _ room.following f.loop.following)
 
 pub loop_frame : (l k : Option ℕ) (n m : ℕ) (x y : Marks) → IsFrame l k n m x y → ForLoop l (IsLoop x) → ForLoop l (IsLoop y)
 loop_frame None k n m x y f room = tt
 loop_frame (Some i) k n m x y f room = record {
   within = subst (λ w. i < w) (sym f.long) room.within;
   around = grown_some _ _ room.around f.loop.around;
-  behind = grown_some _ _ room.behind f.loop.behind;
+  following = grown_some _ _ room.following f.loop.following;
 }
 
 pub room_frame : (l k : Option ℕ) (n m n' m' : ℕ) (x y : Marks) → HasRoom x l n m → IsFrame l k n' m' x y → HasRoom y l n m
 room_frame l k n m n' m' x y r f = record {
-  long = f.long_behind ∙ r.long ∙ sym f.long;
+  long = f.long_after ∙ r.long ∙ sym f.long;
   few = subst (λ w. w < 2 ^ 62) (sym f.long) r.few;
   loop = loop_frame l k n' m' x y f r.loop;
   fits = subst (λ w. m ≤ w) (sym f.long) r.fits;
@@ -169,11 +169,11 @@ room_part l n m n' m' x r a b = record {
   apart = λ i u v. r.apart i (omega arith) (omega arith);
 }
 
-pub room_loop : (n m : ℕ) (x : Marks) → HasRoom x None (n + 1) m → n + 1 ≤ m → IsSome (slot x.around n) → IsSome (slot x.behind n) → HasRoom x (Some n) (n + 1) m
+pub room_loop : (n m : ℕ) (x : Marks) → HasRoom x None (n + 1) m → n + 1 ≤ m → IsSome (slot x.around n) → IsSome (slot x.following n) → HasRoom x (Some n) (n + 1) m
 room_loop n m x r le a b = record {
   long = r.long;
   few = r.few;
-  loop = record { within = omega (arith, r.fits); around = a; behind = b };
+  loop = record { within = omega (arith, r.fits); around = a; following = b };
   fits = r.fits;
   apart = λ i u v. omega arith;
 }
@@ -186,43 +186,43 @@ pub record IsPutAround (i : ℕ) (h : Statuses) (x y : Marks) : Type 0 where
   pub long : length y.around ≡ length x.around
   pub into : IsInto (slot x.around i) h (slot y.around i)
   pub others : (j : ℕ) → j ≢ i → slot y.around j ≡ slot x.around j
-  pub behind : y.behind ≡ x.behind
+  pub following : y.following ≡ x.following
 
-pub record IsPutBehind (i : ℕ) (h : Statuses) (x y : Marks) : Type 0 where
-  pub long : length y.behind ≡ length x.behind
-  pub into : IsInto (slot x.behind i) h (slot y.behind i)
-  pub others : (j : ℕ) → j ≢ i → slot y.behind j ≡ slot x.behind j
+pub record IsPutAfter (i : ℕ) (h : Statuses) (x y : Marks) : Type 0 where
+  pub long : length y.following ≡ length x.following
+  pub into : IsInto (slot x.following i) h (slot y.following i)
+  pub others : (j : ℕ) → j ≢ i → slot y.following j ≡ slot x.following j
   pub around : y.around ≡ x.around
 
 pub put_around_slot : (i : ℕ) (h : Statuses) (x y : Marks) → IsPutAround i h x y → IsGrownSlot i x y
-put_around_slot i h x y p = record { around = p.into.grown; behind = subst (λ b. Grown (slot x.behind i) (slot b i)) (sym p.behind) (grown_refl (slot x.behind i)) }
+put_around_slot i h x y p = record { around = p.into.grown; following = subst (λ b. Grown (slot x.following i) (slot b i)) (sym p.following) (grown_refl (slot x.following i)) }
 
-pub put_behind_slot : (i : ℕ) (h : Statuses) (x y : Marks) → IsPutBehind i h x y → IsGrownSlot i x y
-put_behind_slot i h x y p = record { behind = p.into.grown; around = subst (λ b. Grown (slot x.around i) (slot b i)) (sym p.around) (grown_refl (slot x.around i)) }
+pub put_after_slot : (i : ℕ) (h : Statuses) (x y : Marks) → IsPutAfter i h x y → IsGrownSlot i x y
+put_after_slot i h x y p = record { following = p.into.grown; around = subst (λ b. Grown (slot x.around i) (slot b i)) (sym p.around) (grown_refl (slot x.around i)) }
 
 around_same : (i j : ℕ) (h : Statuses) (x y : Marks) → IsPutAround i h x y → j ≢ i → IsSameAt j x y
-around_same i j h x y p o = record { around = p.others j o; behind = ap (λ b. slot b j) p.behind }
+around_same i j h x y p o = record { around = p.others j o; following = ap (λ b. slot b j) p.following }
 
-behind_same : (i j : ℕ) (h : Statuses) (x y : Marks) → IsPutBehind i h x y → j ≢ i → IsSameAt j x y
-behind_same i j h x y p o = record { behind = p.others j o; around = ap (λ b. slot b j) p.around }
+after_same : (i j : ℕ) (h : Statuses) (x y : Marks) → IsPutAfter i h x y → j ≢ i → IsSameAt j x y
+after_same i j h x y p o = record { following = p.others j o; around = ap (λ b. slot b j) p.around }
 
 pub put_around_frame : (i n m : ℕ) (h : Statuses) (x y : Marks) → IsPutAround i h x y → IsFrame (Some i) None n m x y
 put_around_frame i n m h x y p = record {
   long = p.long;
-  long_behind = ap length p.behind;
+  long_after = ap length p.following;
   before = λ j u v w. around_same i j h x y p v;
   after = λ j u v w. around_same i j h x y p v;
   loop = put_around_slot i h x y p;
   join = tt;
 }
 
-pub put_behind_frame : (i n m : ℕ) (h : Statuses) (x y : Marks) → IsPutBehind i h x y → IsFrame (Some i) None n m x y
-put_behind_frame i n m h x y p = record {
-  long_behind = p.long;
+pub put_after_frame : (i n m : ℕ) (h : Statuses) (x y : Marks) → IsPutAfter i h x y → IsFrame (Some i) None n m x y
+put_after_frame i n m h x y p = record {
+  long_after = p.long;
   long = ap length p.around;
-  before = λ j u v w. behind_same i j h x y p v;
-  after = λ j u v w. behind_same i j h x y p v;
-  loop = put_behind_slot i h x y p;
+  before = λ j u v w. after_same i j h x y p v;
+  after = λ j u v w. after_same i j h x y p v;
+  loop = put_after_slot i h x y p;
   join = tt;
 }
 
@@ -230,21 +230,21 @@ slot_elsewhere : (l : Option ℕ) (k : ℕ) (x y : Marks) → ((j : ℕ) → j �
 slot_elsewhere None k x y f o = tt
 slot_elsewhere (Some i) k x y f o = same_slot i x y (f i (λ e. o (sym e)))
 
--- joined behind a choice
-pub put_choice_frame : (l : Option ℕ) (k n m : ℕ) (h : Statuses) (x y : Marks) → IsOther k l → IsPutBehind k h x y → IsFrame l (Some k) n m x y
+-- joined after a choice
+pub put_choice_frame : (l : Option ℕ) (k n m : ℕ) (h : Statuses) (x y : Marks) → IsOther k l → IsPutAfter k h x y → IsFrame l (Some k) n m x y
 put_choice_frame l k n m h x y o p = record {
-  long_behind = p.long;
+  long_after = p.long;
   long = ap length p.around;
-  before = λ j u v w. behind_same k j h x y p w;
-  after = λ j u v w. behind_same k j h x y p w;
-  loop = slot_elsewhere l k x y (λ j e. behind_same k j h x y p e) o;
-  join = put_behind_slot k h x y p;
+  before = λ j u v w. after_same k j h x y p w;
+  after = λ j u v w. after_same k j h x y p w;
+  loop = slot_elsewhere l k x y (λ j e. after_same k j h x y p e) o;
+  join = put_after_slot k h x y p;
 }
 
 pub frame_also : (l : Option ℕ) (k n m : ℕ) (x y : Marks) → k < n → IsOther k l → IsFrame l None n m x y → IsFrame l (Some k) n m x y
 frame_also l k n m x y lt o f = record {
   long = f.long;
-  long_behind = f.long_behind;
+  long_after = f.long_after;
   before = λ i u v w. f.before i u v tt;
   after = λ i u v w. f.after i u v tt;
   loop = f.loop;
@@ -254,7 +254,7 @@ frame_also l k n m x y lt o f = record {
 -- room for the body of the loop n
 pub room_put : (l : Option ℕ) (n k : ℕ) (h : Statuses) (x y : Marks) → HasRoom x l n (n + (1 + k)) → IsPutAround n h x y → HasRoom y None (n + 1) (n + 1 + k)
 room_put l n k h x y r p = record {
-  long = ap length p.behind ∙ r.long ∙ sym p.long;
+  long = ap length p.following ∙ r.long ∙ sym p.long;
   few = subst (λ w. w < 2 ^ 62) (sym p.long) r.few;
   loop = tt;
   fits = subst (λ w. n + 1 + k ≤ w) (sym p.long) (omega (arith, r.fits));

@@ -9,45 +9,45 @@ use Rattle.vlt_flow.specs.Walks.{Marks, slot, Keeps, KeepsBlock, KeepsStmts, Kee
 -- the maps kept of the statements from n up to m are still kept
 pub record StayIn (x y : Marks) (n m : ℕ) : Type 0 where
   pub around : (i : ℕ) → n ≤ i → i < m → IsSome (slot x.around i) → IsSome (slot y.around i)
-  pub behind : (i : ℕ) → n ≤ i → i < m → IsSome (slot x.behind i) → IsSome (slot y.behind i)
+  pub following : (i : ℕ) → n ≤ i → i < m → IsSome (slot x.following i) → IsSome (slot y.following i)
 
 pub stay_self : (x : Marks) (n m : ℕ) → StayIn x x n m
-stay_self x n m = record { around = λ i u v s. s; behind = λ i u v s. s }
+stay_self x n m = record { around = λ i u v s. s; following = λ i u v s. s }
 
 pub stay_part : (x y : Marks) (n m n' m' : ℕ) → StayIn x y n m → n ≤ n' → m' ≤ m → StayIn x y n' m'
 stay_part x y n m n' m' p a b = record {
   around = λ i u v s. p.around i (omega arith) (omega arith) s;
-  behind = λ i u v s. p.behind i (omega arith) (omega arith) s;
+  following = λ i u v s. p.following i (omega arith) (omega arith) s;
 }
 
 pub stay_chain : (x y z : Marks) (n m : ℕ) → StayIn x y n m → StayIn y z n m → StayIn x z n m
 stay_chain x y z n m p q = record {
   around = λ i u v s. q.around i u v (p.around i u v s);
-  behind = λ i u v s. q.behind i u v (p.behind i u v s);
+  following = λ i u v s. q.following i u v (p.following i u v s);
 }
 
--- those before or behind the statements that were walked
+-- those before or after the statements that were walked
 pub frame_stays : (l k : Option ℕ) (n m a b : ℕ) (x y : Marks) → IsFrame l k n m x y → b ≤ n → ((i : ℕ) → a ≤ i → i < b → IsOther i l) → ((i : ℕ) → a ≤ i → i < b → IsOther i k) → StayIn x y a b
 frame_stays l k n m a b x y f le p q = record {
   around = λ i u v s. subst IsSome (sym (f.before i (omega arith) (p i u v) (q i u v)).around) s;
-  behind = λ i u v s. subst IsSome (sym (f.before i (omega arith) (p i u v) (q i u v)).behind) s;
+  following = λ i u v s. subst IsSome (sym (f.before i (omega arith) (p i u v) (q i u v)).following) s;
 }
 
 mutual
   pub keeps_on : (s : Flow) (x y : Marks) (n : ℕ) → StayIn x y n (n + size s) → Keeps x n s → Keeps y n s
   keeps_on (step rs) x y n p k = tt
   keeps_on (choose rs s t) x y n p k = (
-    λ e. p.behind n (omega arith) (omega arith) (k.0 e),
+    λ e. p.following n (omega arith) (omega arith) (k.0 e),
     keeps_block_on s x y (n + 1) (stay_part x y _ _ _ _ p (omega arith) (omega arith)) k.1,
     keeps_block_on t x y (n + 1 + size_block s) (stay_part x y _ _ _ _ p (omega arith) (omega arith)) k.2,
   )
   keeps_on (loop rs s) x y n p k = (
     p.around n (omega arith) (omega arith) k.0,
-    p.behind n (omega arith) (omega arith) k.1,
+    p.following n (omega arith) (omega arith) k.1,
     keeps_block_on s x y (n + 1) (stay_part x y _ _ _ _ p (omega arith) (omega arith)) k.2,
   )
   keeps_on (switch rs arms end) x y n p k = (
-    λ e. p.behind n (omega arith) (omega arith) (k.0 e),
+    λ e. p.following n (omega arith) (omega arith) (k.0 e),
     keeps_arms_on arms x y (n + 1) (stay_part x y _ _ _ _ p (omega arith) (omega arith)) k.1,
   )
   keeps_on (scope s) x y n p k = keeps_block_on s x y (n + 1) (stay_part x y _ _ _ _ p (omega arith) (omega arith)) k
@@ -72,7 +72,7 @@ mutual
     keeps_arms_on rest x y (n + size_block s) (stay_part x y _ _ _ _ p (omega arith) (omega arith)) k.1,
   )
 
--- something comes behind a part that can be passed
+-- something comes after a part that can be passed
 pub come_to : (b : Bool) (o : Option HeldMap) (P : Type 0) → MatchBool b (IsSome o) (o ≡ None) → When o (λ m. P) → b ≡ true → P
 come_to true None P s w e = absurd (no_some s)
   where

@@ -11,7 +11,7 @@ use Rattle.vlt_core_laws.proofs.Changes.{IsSameOn, IsGrownAt, when_same, meets_b
 use Rattle.vlt_keyset.specs.Held.{Statuses, map_of}
 use Rattle.vlt_flow.specs.Walks.{Marks, slot, map_in, maybe_map, notes_of, Above, IsUnder, Grown, IsInto, KeepsBlock, HasRoom, HasRoomFor, Passes, IsWalked, HasNone, Lies, form_part, block_part, stmts_part, IsWay, IsJoinedWay, HasNoWay, IsPlace, IsLeft, NoLeft, IsJump, HasNoJump, IsJoinedArms, HasNoArms, IsLeastLocal}
 use Rattle.vlt_flow.proofs.Keeping.{StayIn, keeps_block_on, frame_stays}
-use Rattle.vlt_flow.proofs.Framing.{no_some, grown_below, grown_some, frame_refl, frame_trans, frame_wider, frame_choice, frame_before, frame_meets, loop_frame, IsPutAround, IsPutBehind, put_around_frame, put_behind_frame, put_choice_frame, frame_also}
+use Rattle.vlt_flow.proofs.Framing.{no_some, grown_below, grown_some, frame_refl, frame_trans, frame_wider, frame_choice, frame_before, frame_meets, loop_frame, IsPutAround, IsPutAfter, put_around_frame, put_after_frame, put_choice_frame, frame_also}
 
 -- ---- maps below
 
@@ -35,14 +35,14 @@ under_around i h x y a p below u = record {
       (λ e. subst (λ j. Above (slot y.around j) (a.around j)) (sym e) (p.into.least (a.around i) (u.around i) below))
       (λ o. subst (λ s. Above s (a.around j)) (sym (p.others j o)) (u.around j))
       (is_or_not j i);
-  behind = λ j. subst (λ b. Above (slot b j) (a.behind j)) (sym p.behind) (u.behind j);
+  following = λ j. subst (λ b. Above (slot b j) (a.following j)) (sym p.following) (u.following j);
 }
 
-pub under_behind : (i : ℕ) (h : Statuses) (x y : Marks) (a : Notes) → IsPutBehind i h x y → IsBelow (map_of h) (a.behind i) → IsUnder x a → IsUnder y a
-under_behind i h x y a p below u = record {
-  behind = λ j. ⊎_elim
-      (λ e. subst (λ j. Above (slot y.behind j) (a.behind j)) (sym e) (p.into.least (a.behind i) (u.behind i) below))
-      (λ o. subst (λ s. Above s (a.behind j)) (sym (p.others j o)) (u.behind j))
+pub under_after : (i : ℕ) (h : Statuses) (x y : Marks) (a : Notes) → IsPutAfter i h x y → IsBelow (map_of h) (a.following i) → IsUnder x a → IsUnder y a
+under_after i h x y a p below u = record {
+  following = λ j. ⊎_elim
+      (λ e. subst (λ j. Above (slot y.following j) (a.following j)) (sym e) (p.into.least (a.following i) (u.following i) below))
+      (λ o. subst (λ s. Above s (a.following j)) (sym (p.others j o)) (u.following j))
       (is_or_not j i);
   around = λ j. subst (λ b. Above (slot b j) (a.around j)) (sym p.around) (u.around j);
 }
@@ -97,19 +97,19 @@ jump_around i left h xs x y p q = record {
   least = λ a below u. under_around i xs x y a q (subst (λ g. IsBelow g (a.around i)) (sym p.after) below) u;
 }
 
-pub jump_behind : (i : ℕ) (left : List Tok) (h : HeldMap) (xs : Statuses) (x y : Marks) → Passes (map away_row left) h (map_of xs) → IsPutBehind i xs x y → IsJump (Some i) false left h x y
-jump_behind i left h xs x y p q = record {
+pub jump_after : (i : ℕ) (left : List Tok) (h : HeldMap) (xs : Statuses) (x y : Marks) → Passes (map away_row left) h (map_of xs) → IsPutAfter i xs x y → IsJump (Some i) false left h x y
+jump_after i left h xs x y p q = record {
   can = p.can;
-  into = subst (λ g. IsBelow g (map_in (slot y.behind i))) p.after (into_in _ _ _ q.into);
-  frame = λ n m. put_behind_frame i n m xs x y q;
-  least = λ a below u. under_behind i xs x y a q (subst (λ g. IsBelow g (a.behind i)) (sym p.after) below) u;
+  into = subst (λ g. IsBelow g (map_in (slot y.following i))) p.after (into_in _ _ _ q.into);
+  frame = λ n m. put_after_frame i n m xs x y q;
+  least = λ a below u. under_after i xs x y a q (subst (λ g. IsBelow g (a.following i)) (sym p.after) below) u;
 }
 
 pub jump_around_none : (i : ℕ) (left : List Tok) (h : HeldMap) (xs : Statuses) (x : Marks) → Passes (map away_row left) h (map_of xs) → ((m : HeldMap) → Above (slot x.around i) m → IsBelow (map_of xs) m → ⊥) → HasNoJump (Some i) true left h x
 jump_around_none i left h xs x p never a can below u = never (a.around i) (u.around i) (subst (λ g. IsBelow g (a.around i)) (sym p.after) below)
 
-pub jump_behind_none : (i : ℕ) (left : List Tok) (h : HeldMap) (xs : Statuses) (x : Marks) → Passes (map away_row left) h (map_of xs) → ((m : HeldMap) → Above (slot x.behind i) m → IsBelow (map_of xs) m → ⊥) → HasNoJump (Some i) false left h x
-jump_behind_none i left h xs x p never a can below u = never (a.behind i) (u.behind i) (subst (λ g. IsBelow g (a.behind i)) (sym p.after) below)
+pub jump_after_none : (i : ℕ) (left : List Tok) (h : HeldMap) (xs : Statuses) (x : Marks) → Passes (map away_row left) h (map_of xs) → ((m : HeldMap) → Above (slot x.following i) m → IsBelow (map_of xs) m → ⊥) → HasNoJump (Some i) false left h x
+jump_after_none i left h xs x p never a can below u = never (a.following i) (u.following i) (subst (λ g. IsBelow g (a.following i)) (sym p.after) below)
 
 pub jump_rows_none : (l : Option ℕ) (c : Bool) (left : List Tok) (h : HeldMap) (x : Marks) → (CanPass (map away_row left) h → ⊥) → HasNoJump l c left h x
 jump_rows_none l c left h x never a can below u = never can
@@ -217,12 +217,12 @@ way_passes_some l n m s h x y e w = passes_some (passes_block s) _ (map_of e) (l
 
 pub way_none : (l : Option ℕ) (k n : ℕ) (s : Block) (h : HeldMap) (x y : Marks) → HasRoomFor x l k n (n + size_block s) → IsWalked (block_part l n s) l n (n + size_block s) h x y None → IsJoinedWay l k n s h x y
 way_none l k n s h x y room w = record {
-  way = record { into = subst (λ o. When o (λ m. IsSome (slot y.behind k) × IsBelow m (map_in (slot y.behind k)))) w.leads tt; local = w.local; keeps = w.keeps };
+  way = record { into = subst (λ o. When o (λ m. IsSome (slot y.following k) × IsBelow m (map_in (slot y.following k)))) w.leads tt; local = w.local; keeps = w.keeps };
   frame = frame_also l k n (n + size_block s) x y room.choice room.other w.frame;
   least = λ a j below loc t u. (w.least a j below loc u).0;
 }
 
-pub way_some : (l : Option ℕ) (k n : ℕ) (s : Block) (h : HeldMap) (x y z : Marks) (e : Statuses) → HasRoomFor x l k n (n + size_block s) → IsWalked (block_part l n s) l n (n + size_block s) h x y (Some e) → IsPutBehind k e y z → IsJoinedWay l k n s h x z
+pub way_some : (l : Option ℕ) (k n : ℕ) (s : Block) (h : HeldMap) (x y z : Marks) (e : Statuses) → HasRoomFor x l k n (n + size_block s) → IsWalked (block_part l n s) l n (n + size_block s) h x y (Some e) → IsPutAfter k e y z → IsJoinedWay l k n s h x z
 way_some l k n s h x y z e room w p =
     let lt = room.choice in
     let f = put_choice_frame l k n (n + size_block s) e y z room.other p in
@@ -232,33 +232,33 @@ way_some l k n s h x y z e room w p =
     let grown = frame_meets l (Some k) n (n + size_block s) y z f (loop_frame l None n (n + size_block s) x y w.frame room.room.loop) in
     record {
       way = record {
-        into = subst (λ o. When o (λ m. IsSome (slot z.behind k) × IsBelow m (map_in (slot z.behind k)))) (w.leads ∙ leads_block_same s (notes_of y) (notes_of z) n h same) (p.into.some, into_in _ _ _ p.into);
+        into = subst (λ o. When o (λ m. IsSome (slot z.following k) × IsBelow m (map_in (slot z.following k)))) (w.leads ∙ leads_block_same s (notes_of y) (notes_of z) n h same) (p.into.some, into_in _ _ _ p.into);
         local = local_block_grown s (notes_of y) (notes_of z) l n h same grown w.local;
         keeps = keeps_block_on s y z n stay w.keeps;
       };
       frame = frame_trans l (Some k) n (n + size_block s) x y z (frame_also l k n (n + size_block s) x y room.choice room.other w.frame) f;
       least = λ a j below loc t u.
           let v = w.least a j below loc u in
-          under_behind k e y z a p (lies_when (map_of e) (a.behind k) _ v.1 t) v.0;
+          under_after k e y z a p (lies_when (map_of e) (a.following k) _ v.1 t) v.0;
     }
 
 pub way_body_none : (l : Option ℕ) (k n : ℕ) (s : Block) (h : HeldMap) (x : Marks) → HasNone (block_part l n s) h x → HasNoWay l k n s h x
 way_body_none l k n s h x never a j below loc t u = never a j below loc u
 
-pub way_join_none : (l : Option ℕ) (k n m : ℕ) (s : Block) (h : HeldMap) (x y : Marks) (e : Statuses) → IsWalked (block_part l n s) l n m h x y (Some e) → ((m : HeldMap) → Above (slot y.behind k) m → IsBelow (map_of e) m → ⊥) → HasNoWay l k n s h x
+pub way_join_none : (l : Option ℕ) (k n m : ℕ) (s : Block) (h : HeldMap) (x y : Marks) (e : Statuses) → IsWalked (block_part l n s) l n m h x y (Some e) → ((m : HeldMap) → Above (slot y.following k) m → IsBelow (map_of e) m → ⊥) → HasNoWay l k n s h x
 way_join_none l k n m s h x y e w never a j below loc t u =
     let v = w.least a j below loc u in
-    never (a.behind k) (v.0.behind k) (lies_when (map_of e) (a.behind k) _ v.1 t)
+    never (a.following k) (v.0.following k) (lies_when (map_of e) (a.following k) _ v.1 t)
 
-pub way_same : (l : Option ℕ) (k n : ℕ) (s : Block) (h : HeldMap) (y z : Marks) → IsWay l k n s h y → IsSameOn (notes_of y) (notes_of z) n (n + size_block s) → IsGrownAt (notes_of y) (notes_of z) l → StayIn y z n (n + size_block s) → Grown (slot y.behind k) (slot z.behind k) → IsWay l k n s h z
+pub way_same : (l : Option ℕ) (k n : ℕ) (s : Block) (h : HeldMap) (y z : Marks) → IsWay l k n s h y → IsSameOn (notes_of y) (notes_of z) n (n + size_block s) → IsGrownAt (notes_of y) (notes_of z) l → StayIn y z n (n + size_block s) → Grown (slot y.following k) (slot z.following k) → IsWay l k n s h z
 way_same l k n s h y z w e g stay grown = record {
-  into = when_same _ _ _ (λ m. IsSome (slot z.behind k) × IsBelow m (map_in (slot z.behind k))) (leads_block_same s (notes_of y) (notes_of z) n h e)
-      (λ m q. (grown_some (slot y.behind k) (slot z.behind k) q.0 grown, map_trans m (map_in (slot y.behind k)) (map_in (slot z.behind k)) q.1 (grown_below _ _ q.0 grown))) w.into;
+  into = when_same _ _ _ (λ m. IsSome (slot z.following k) × IsBelow m (map_in (slot z.following k))) (leads_block_same s (notes_of y) (notes_of z) n h e)
+      (λ m q. (grown_some (slot y.following k) (slot z.following k) q.0 grown, map_trans m (map_in (slot y.following k)) (map_in (slot z.following k)) q.1 (grown_below _ _ q.0 grown))) w.into;
   local = local_block_grown s (notes_of y) (notes_of z) l n h e g w.local;
   keeps = keeps_block_on s y z n stay w.keeps;
 }
 
--- where a way can be passed, a map is kept behind its choice
+-- where a way can be passed, a map is kept after its choice
 some_leads : (b : Bool) (o : Option HeldMap) → b ≡ true → MatchBool b (IsSome o) (o ≡ None) → IsSome o
 some_leads true o e p = p
 some_leads false o e p = absurd (true≢false (sym e))
@@ -270,26 +270,26 @@ when_there None P Q s w = absurd (none_some s)
     none_some s = search rules
 when_there (Some m) P Q s w = w.0
 
-pub way_there : (l : Option ℕ) (k n : ℕ) (s : Block) (h : HeldMap) (x y : Marks) → IsJoinedWay l k n s h x y → passes_block s ≡ true → IsSome (slot y.behind k)
-way_there l k n s h x y w e = when_there (leads_block (notes_of y) n h s) _ (λ m. IsBelow m (map_in (slot y.behind k))) (some_leads (passes_block s) _ e (leads_block_some s (notes_of y) n h)) w.way.into
+pub way_there : (l : Option ℕ) (k n : ℕ) (s : Block) (h : HeldMap) (x y : Marks) → IsJoinedWay l k n s h x y → passes_block s ≡ true → IsSome (slot y.following k)
+way_there l k n s h x y w e = when_there (leads_block (notes_of y) n h s) _ (λ m. IsBelow m (map_in (slot y.following k))) (some_leads (passes_block s) _ e (leads_block_some s (notes_of y) n h)) w.way.into
 
 pub or_true : (a b : Bool) → (a || b) ≡ true → (a ≡ true) ⊎ (b ≡ true)
 or_true true b e = inl refl
 or_true false b e = inr e
 
-pub ways_there : (l : Option ℕ) (k n m : ℕ) (s t : Block) (h i : HeldMap) (x y z : Marks) → IsJoinedWay l k n s h x y → IsJoinedWay l k m t i y z → (passes_block s || passes_block t) ≡ true → IsSome (slot z.behind k)
-ways_there l k n m s t h i x y z v w e = ⊎_elim (λ a. grown_some _ _ (way_there l k n s h x y v a) w.frame.join.behind) (λ b. way_there l k m t i y z w b) (or_true (passes_block s) (passes_block t) e)
+pub ways_there : (l : Option ℕ) (k n m : ℕ) (s t : Block) (h i : HeldMap) (x y z : Marks) → IsJoinedWay l k n s h x y → IsJoinedWay l k m t i y z → (passes_block s || passes_block t) ≡ true → IsSome (slot z.following k)
+ways_there l k n m s t h i x y z v w e = ⊎_elim (λ a. grown_some _ _ (way_there l k n s h x y v a) w.frame.join.following) (λ b. way_there l k m t i y z w b) (or_true (passes_block s) (passes_block t) e)
 
 pub when_second : (o : Option HeldMap) (P : Type 0) (Q : HeldMap → Type 0) → When o (λ m. P × Q m) → When o Q
 when_second None P Q w = tt
 when_second (Some m) P Q w = w.1
 
-place_leads : (z : Marks) (n : ℕ) (b : Bool) (r : Option Statuses) → IsPlace z n b r → maybe_map r ≡ only_if b (map_in (slot z.behind n))
+place_leads : (z : Marks) (n : ℕ) (b : Bool) (r : Option Statuses) → IsPlace z n b r → maybe_map r ≡ only_if b (map_in (slot z.following n))
 place_leads z n true None p = absurd (no_some p.0)
 place_leads z n true (Some v) p = ap (λ o. Some (map_in o)) (sym p.1)
 place_leads z n false r p = ap maybe_map p
 
-place_lies : (z : Marks) (n : ℕ) (b : Bool) (r : Option Statuses) (m : HeldMap) → IsPlace z n b r → Above (slot z.behind n) m → Lies (maybe_map r) (only_if b m)
+place_lies : (z : Marks) (n : ℕ) (b : Bool) (r : Option Statuses) (m : HeldMap) → IsPlace z n b r → Above (slot z.following n) m → Lies (maybe_map r) (only_if b m)
 place_lies z n true None m p u = absurd (no_some p.0)
 place_lies z n true (Some v) m p u = subst (λ o. Above o m) p.1 u
 place_lies z n false r m p u = subst (λ o. Lies (maybe_map o) (only_if false m)) (sym p) tt
@@ -305,18 +305,18 @@ choose_walked l n rs s t h xs x y z r room p first second place =
     let same = frame_before l (Some n) (n + 1 + size_block s) (n + 1 + size_block s + size_block t) (n + 1) (n + 1 + size_block s) y z second.frame (omega arith) (λ i u v. room.apart i (omega arith) (omega arith)) (λ i u v. omega arith) in
     let grown = frame_meets l (Some n) _ _ y z second.frame (loop_frame l (Some n) _ _ x y first.frame room.loop) in
     let stay = frame_stays l (Some n) (n + 1 + size_block s) (n + 1 + size_block s + size_block t) (n + 1) (n + 1 + size_block s) y z second.frame (omega arith) (λ i u v. room.apart i (omega arith) (omega arith)) (λ i u v. omega arith) in
-    let w1 = subst (λ g. IsWay l n (n + 1) s g z) p.after (way_same l n (n + 1) s (map_of xs) y z first.way same grown stay second.frame.join.behind) in
+    let w1 = subst (λ g. IsWay l n (n + 1) s g z) p.after (way_same l n (n + 1) s (map_of xs) y z first.way same grown stay second.frame.join.following) in
     let w2 = subst (λ g. IsWay l n (n + 1 + size_block s) t g z) p.after second.way in
     record {
       leads = place_leads z n (passes_block s || passes_block t) r place;
-      local = (p.can, w1.local, w2.local, when_second _ _ (λ m. IsBelow m (map_in (slot z.behind n))) w1.into, when_second _ _ (λ m. IsBelow m (map_in (slot z.behind n))) w2.into);
+      local = (p.can, w1.local, w2.local, when_second _ _ (λ m. IsBelow m (map_in (slot z.following n))) w1.into, when_second _ _ (λ m. IsBelow m (map_in (slot z.following n))) w2.into);
       keeps = (λ e. ways_there l n (n + 1) (n + 1 + size_block s) s t (map_of xs) (map_of xs) x y z first second e, w1.keeps, w2.keeps);
       frame = frame_choice l n (n + 1) (n + (1 + (size_block s + size_block t))) n x z (omega arith) (omega arith) (omega arith) (frame_trans l (Some n) _ _ x y z f1 f2);
       least = λ a k below loc u.
           let b = inside_below rs h (map_of xs) k p below in
           let v = first.least a (map_after rs k) b loc.1 loc.3 u in
           let w = second.least a (map_after rs k) b loc.2 loc.4 v in
-          (w, place_lies z n (passes_block s || passes_block t) r (a.behind n) place (w.behind n));
+          (w, place_lies z n (passes_block s || passes_block t) r (a.following n) place (w.following n));
     }
 
 pub choose_rows_none : (l : Option ℕ) (n : ℕ) (rs : List Row) (s t : Block) (h : HeldMap) (x : Marks) → (CanPass rs h → ⊥) → HasNone (form_part l n (choose rs s t)) h x
@@ -335,12 +335,12 @@ pub switch_walked : (l : Option ℕ) (n : ℕ) (rs : List Row) (arms : Arms) (en
     IsWalked (form_part l n (switch rs arms end)) l n (n + (1 + size_arms arms)) h x z r
 switch_walked l n rs arms end h xs x z r p w place = record {
   leads = place_leads z n (passes_arms arms) r place;
-  local = (p.can, subst (λ g. IsLocalArms (notes_of z) l (n + 1) g arms (map_in (slot z.behind n))) p.after w.local);
+  local = (p.can, subst (λ g. IsLocalArms (notes_of z) l (n + 1) g arms (map_in (slot z.following n))) p.after w.local);
   keeps = (w.there, w.keeps);
   frame = frame_choice l n (n + 1) (n + (1 + size_arms arms)) n x z (omega arith) (omega arith) (omega arith) (frame_wider l (Some n) _ _ (n + 1) (n + (1 + size_arms arms)) x z (omega arith) (omega arith) w.frame);
   least = λ a k below loc u.
       let v = w.least a (map_after rs k) (inside_below rs h (map_of xs) k p below) loc.1 u in
-      (v, place_lies z n (passes_arms arms) r (a.behind n) place (v.behind n));
+      (v, place_lies z n (passes_arms arms) r (a.following n) place (v.following n));
 }
 
 pub switch_rows_none : (l : Option ℕ) (n : ℕ) (rs : List Row) (arms : Arms) (end : ℕ) (h : HeldMap) (x : Marks) → (CanPass rs h → ⊥) → HasNone (form_part l n (switch rs arms end)) h x
@@ -351,13 +351,13 @@ switch_arms_none l n rs arms end h i x p never a k below loc u = never a (map_af
 
 -- ---- a whole body
 
-pub under_nothing : (x : Marks) (a : Notes) → ((i : ℕ) → slot x.around i ≡ None) → ((i : ℕ) → slot x.behind i ≡ None) → IsUnder x a
+pub under_nothing : (x : Marks) (a : Notes) → ((i : ℕ) → slot x.around i ≡ None) → ((i : ℕ) → slot x.following i ≡ None) → IsUnder x a
 under_nothing x a p q = record {
   around = λ i. subst (λ o. Above o (a.around i)) (sym (p i)) tt;
-  behind = λ i. subst (λ o. Above o (a.behind i)) (sym (q i)) tt;
+  following = λ i. subst (λ o. Above o (a.following i)) (sym (q i)) tt;
 }
 
-pub body_least : (s : Block) (h : HeldMap) (x y : Marks) (r : Option Statuses) → ((i : ℕ) → slot x.around i ≡ None) → ((i : ℕ) → slot x.behind i ≡ None) → IsWalked (block_part None 0 s) None 0 (0 + size_block s) h x y r → IsLeastLocal s h y
+pub body_least : (s : Block) (h : HeldMap) (x y : Marks) (r : Option Statuses) → ((i : ℕ) → slot x.around i ≡ None) → ((i : ℕ) → slot x.following i ≡ None) → IsWalked (block_part None 0 s) None 0 (0 + size_block s) h x y r → IsLeastLocal s h y
 body_least s h x y r p q w = record {
   local = w.local;
   least = λ a loc. (w.least a h (map_refl h) loc (under_nothing x a p q)).0;
@@ -366,10 +366,10 @@ body_least s h x y r p q w = record {
 pub body_keeps : (s : Block) (h : HeldMap) (x y : Marks) (r : Option Statuses) → IsWalked (block_part None 0 s) None 0 (0 + size_block s) h x y r → KeepsBlock y 0 s
 body_keeps s h x y r w = w.keeps
 
-pub body_none : (s : Block) (h : HeldMap) (x : Marks) → ((i : ℕ) → slot x.around i ≡ None) → ((i : ℕ) → slot x.behind i ≡ None) → HasNone (block_part None 0 s) h x → (a : Notes) → IsLocalBlock a None 0 h s → ⊥
+pub body_none : (s : Block) (h : HeldMap) (x : Marks) → ((i : ℕ) → slot x.around i ≡ None) → ((i : ℕ) → slot x.following i ≡ None) → HasNone (block_part None 0 s) h x → (a : Notes) → IsLocalBlock a None 0 h s → ⊥
 body_none s h x p q never a loc = never a h (map_refl h) loc (under_nothing x a p q)
 
-pub body_room : (m : ℕ) (x : Marks) → length x.around ≡ m → length x.behind ≡ m → m < 2 ^ 62 → HasRoom x None 0 (0 + m)
+pub body_room : (m : ℕ) (x : Marks) → length x.around ≡ m → length x.following ≡ m → m < 2 ^ 62 → HasRoom x None 0 (0 + m)
 body_room m x p q lt = record {
   long = q ∙ sym p;
   few = subst (λ w. w < 2 ^ 62) (sym p) (omega arith);

@@ -13,24 +13,24 @@ use Rattle.vlt_rows.proofs.Views.{arm_parts, stmt_parts}
 use Rattle.vlt_core_laws.proofs.Changes.{IsSameOn, IsGrownAt, same_part, when_same, leads_block_same, leads_same, local_grown, local_block_grown, leads_some}
 use Rattle.vlt_keyset.specs.Held.{Statuses, map_of, gap}
 use Rattle.vlt_flow.specs.Walks.{Marks, slot, map_in, maybe_map, notes_of, Above, IsUnder, Grown, KeepsStmts, KeepsArms, IsFrame, IsLoop, HasRoom, HasRoomFor, Passes, IsWalked, HasNone, Lies, form_part, block_part, stmts_part, IsJoinedWay, HasNoWay, IsTurn, HasNoTurn, IsTurned, IsJoinedArms, HasNoArms, IsWalkedOn, HasNoneOn}
-use Rattle.vlt_flow.proofs.Framing.{grown_below, grown_some, frame_refl, frame_trans, frame_wider, frame_loop, frame_before, frame_meets, loop_frame, room_frame, IsPutAround, IsPutBehind, put_around_frame, put_behind_frame}
+use Rattle.vlt_flow.proofs.Framing.{grown_below, grown_some, frame_refl, frame_trans, frame_wider, frame_loop, frame_before, frame_meets, loop_frame, room_frame, IsPutAround, IsPutAfter, put_around_frame, put_after_frame}
 use Rattle.vlt_flow.proofs.Keeping.{StayIn, keeps_on, keeps_block_on, come_to, stay_part, stay_chain, stay_self, frame_stays}
-use Rattle.vlt_flow.proofs.Parts.{or_true, way_there, inside_below, lies_when, under_around, under_behind, into_in}
+use Rattle.vlt_flow.proofs.Parts.{or_true, way_there, inside_below, lies_when, under_around, under_after, into_in}
 
 -- ---- turns
 
--- the loop's maps are there once what passes its rows was joined behind it
-pub loop_there : (n m : ℕ) (x y : Marks) (before inside : Statuses) → HasRoom x None (n + 1) m → n + 1 ≤ m → slot x.around n ≡ Some before → IsPutBehind n inside x y → IsLoop y n
+-- the loop's maps are there once what passes its rows was joined after it
+pub loop_there : (n m : ℕ) (x y : Marks) (before inside : Statuses) → HasRoom x None (n + 1) m → n + 1 ≤ m → slot x.around n ≡ Some before → IsPutAfter n inside x y → IsLoop y n
 loop_there n m x y before inside room le e p = record {
   within = subst (λ w. n < length w) (sym p.around) (omega (arith, room.fits));
   around = subst (λ w. IsSome (slot w n)) (sym p.around) (subst IsSome (sym e) (some before));
-  behind = p.into.some;
+  following = p.into.some;
 }
   where
     some : (b : Statuses) → IsSome (Some b)
     some b = search rules
 
-pub room_inside : (n m : ℕ) (x y : Marks) (before inside : Statuses) → HasRoom x None (n + 1) m → n + 1 ≤ m → slot x.around n ≡ Some before → IsPutBehind n inside x y → HasRoom y (Some n) (n + 1) m
+pub room_inside : (n m : ℕ) (x y : Marks) (before inside : Statuses) → HasRoom x None (n + 1) m → n + 1 ≤ m → slot x.around n ≡ Some before → IsPutAfter n inside x y → HasRoom y (Some n) (n + 1) m
 room_inside n m x y before inside room le e p = record {
   long = p.long ∙ room.long ∙ sym (ap length p.around);
   few = subst (λ w. length w < 2 ^ 62) (sym p.around) room.few;
@@ -40,31 +40,31 @@ room_inside n m x y before inside room le e p = record {
 }
 
 -- what a local annotation says of a turn
-turn_under : (rs : List Row) (s : Block) (n m : ℕ) (before inside : Statuses) (x y z : Marks) (r : Option Statuses) → slot x.around n ≡ Some before → Passes rs (map_of before) (map_of inside) → IsPutBehind n inside x y → IsWalked (block_part (Some n) (n + 1) s) (Some n) (n + 1) m (map_of inside) y z r →
+turn_under : (rs : List Row) (s : Block) (n m : ℕ) (before inside : Statuses) (x y z : Marks) (r : Option Statuses) → slot x.around n ≡ Some before → Passes rs (map_of before) (map_of inside) → IsPutAfter n inside x y → IsWalked (block_part (Some n) (n + 1) s) (Some n) (n + 1) m (map_of inside) y z r →
     (a : Notes) (l : Option ℕ) (h : HeldMap) → IsLocal a l n h (loop rs s) → IsUnder x a → IsUnder z a × Lies (maybe_map r) (leads_block a (n + 1) (map_after rs (a.around n)) s)
 turn_under rs s n m before inside x y z r e p put w a l h loc u =
     let low : IsBelow (map_of before) (a.around n) = subst (λ o. Above o (a.around n)) e (u.around n) in
     let b = inside_below rs (map_of before) (map_of inside) (a.around n) p low in
-    let v = under_behind n inside x y a put (map_trans (map_of inside) _ (a.behind n) b loc.2) u in
+    let v = under_after n inside x y a put (map_trans (map_of inside) _ (a.following n) b loc.2) u in
     w.least a (map_after rs (a.around n)) b loc.3 v
 
-turn_exit : (rs : List Row) (n m : ℕ) (before inside : Statuses) (x y z : Marks) → Passes rs (map_of before) (map_of inside) → IsPutBehind n inside x y → IsFrame (Some n) None (n + 1) m y z → IsBelow (map_after rs (map_of before)) (map_in (slot z.behind n))
+turn_exit : (rs : List Row) (n m : ℕ) (before inside : Statuses) (x y z : Marks) → Passes rs (map_of before) (map_of inside) → IsPutAfter n inside x y → IsFrame (Some n) None (n + 1) m y z → IsBelow (map_after rs (map_of before)) (map_in (slot z.following n))
 turn_exit rs n m before inside x y z p put f =
-    subst (λ g. IsBelow g (map_in (slot z.behind n))) p.after (map_trans (map_of inside) (map_in (slot y.behind n)) (map_in (slot z.behind n)) (into_in _ _ _ put.into) (grown_below _ _ put.into.some f.loop.behind))
+    subst (λ g. IsBelow g (map_in (slot z.following n))) p.after (map_trans (map_of inside) (map_in (slot y.following n)) (map_in (slot z.following n)) (into_in _ _ _ put.into) (grown_below _ _ put.into.some f.loop.following))
 
-pub turn_none : (rs : List Row) (s : Block) (n m : ℕ) (before inside : Statuses) (x y z : Marks) → slot x.around n ≡ Some before → Passes rs (map_of before) (map_of inside) → IsPutBehind n inside x y → IsWalked (block_part (Some n) (n + 1) s) (Some n) (n + 1) m (map_of inside) y z None → IsTurn rs s n m before x z
+pub turn_none : (rs : List Row) (s : Block) (n m : ℕ) (before inside : Statuses) (x y z : Marks) → slot x.around n ≡ Some before → Passes rs (map_of before) (map_of inside) → IsPutAfter n inside x y → IsWalked (block_part (Some n) (n + 1) s) (Some n) (n + 1) m (map_of inside) y z None → IsTurn rs s n m before x z
 turn_none rs s n m before inside x y z e p put w = record {
   can = p.can;
   exit = turn_exit rs n m before inside x y z p put w.frame;
-  some = grown_some _ _ put.into.some w.frame.loop.behind;
+  some = grown_some _ _ put.into.some w.frame.loop.following;
   local = subst (λ g. IsLocalBlock (notes_of z) (Some n) (n + 1) g s) p.after w.local;
   keeps = w.keeps;
   back = subst (λ o. When o (λ m. IsBelow m (map_in (slot z.around n)))) (w.leads ∙ ap (λ g. leads_block (notes_of z) (n + 1) g s) p.after) tt;
-  frame = frame_trans (Some n) None (n + 1) m x y z (put_behind_frame n (n + 1) m inside x y put) w.frame;
+  frame = frame_trans (Some n) None (n + 1) m x y z (put_after_frame n (n + 1) m inside x y put) w.frame;
   least = λ a l h loc u. (turn_under rs s n m before inside x y z None e p put w a l h loc u).0;
 }
 
-pub turn_some : (rs : List Row) (s : Block) (n : ℕ) (before inside back : Statuses) (x y z v : Marks) → HasRoom x None (n + 1) (n + 1 + size_block s) → slot x.around n ≡ Some before → Passes rs (map_of before) (map_of inside) → IsPutBehind n inside x y → IsWalked (block_part (Some n) (n + 1) s) (Some n) (n + 1) (n + 1 + size_block s) (map_of inside) y z (Some back) → IsPutAround n back z v → IsTurn rs s n (n + 1 + size_block s) before x v
+pub turn_some : (rs : List Row) (s : Block) (n : ℕ) (before inside back : Statuses) (x y z v : Marks) → HasRoom x None (n + 1) (n + 1 + size_block s) → slot x.around n ≡ Some before → Passes rs (map_of before) (map_of inside) → IsPutAfter n inside x y → IsWalked (block_part (Some n) (n + 1) s) (Some n) (n + 1) (n + 1 + size_block s) (map_of inside) y z (Some back) → IsPutAround n back z v → IsTurn rs s n (n + 1 + size_block s) before x v
 turn_some rs s n before inside back x y z v room e p put w put' =
     let f = put_around_frame n (n + 1 + size_block s) (n + 1 + size_block s) back z v put' in
     let same = frame_before (Some n) None (n + 1 + size_block s) (n + 1 + size_block s) (n + 1) (n + 1 + size_block s) z v f (omega arith) (λ i u w. omega arith) (λ i u w. tt) in
@@ -76,11 +76,11 @@ turn_some rs s n before inside back x y z v room e p put w put' =
     record {
       can = p.can;
       exit = turn_exit rs n (n + 1 + size_block s) before inside x y v p put whole;
-      some = grown_some _ _ put.into.some whole.loop.behind;
+      some = grown_some _ _ put.into.some whole.loop.following;
       local = subst (λ g. IsLocalBlock (notes_of v) (Some n) (n + 1) g s) p.after (local_block_grown s (notes_of z) (notes_of v) (Some n) (n + 1) (map_of inside) same grown w.local);
       keeps = keeps_block_on s z v (n + 1) stay w.keeps;
       back = subst (λ o. When o (λ m. IsBelow m (map_in (slot v.around n)))) (w.leads ∙ leads_block_same s (notes_of z) (notes_of v) (n + 1) (map_of inside) same ∙ ap (λ g. leads_block (notes_of v) (n + 1) g s) p.after) (into_in _ _ _ put'.into);
-      frame = frame_trans (Some n) None (n + 1) (n + 1 + size_block s) x y v (put_behind_frame n (n + 1) (n + 1 + size_block s) inside x y put) whole;
+      frame = frame_trans (Some n) None (n + 1) (n + 1 + size_block s) x y v (put_after_frame n (n + 1) (n + 1 + size_block s) inside x y put) whole;
       least = λ a l h loc u.
           let t = turn_under rs s n (n + 1 + size_block s) before inside x y z (Some back) e p put w a l h loc u in
           under_around n back z v a put' (lies_when (map_of back) (a.around n) _ t.1 loc.4) t.0;
@@ -89,17 +89,17 @@ turn_some rs s n before inside back x y z v room e p put w put' =
 pub turn_rows_none : (rs : List Row) (s : Block) (n : ℕ) (before : Statuses) (x : Marks) → slot x.around n ≡ Some before → (CanPass rs (map_of before) → ⊥) → HasNoTurn rs s n x
 turn_rows_none rs s n before x e never a l h loc u = never (can_below rs (map_of before) (a.around n) (subst (λ o. Above o (a.around n)) e (u.around n)) loc.1)
 
-pub turn_exit_none : (rs : List Row) (s : Block) (n : ℕ) (before inside : Statuses) (x : Marks) → slot x.around n ≡ Some before → Passes rs (map_of before) (map_of inside) → ((m : HeldMap) → Above (slot x.behind n) m → IsBelow (map_of inside) m → ⊥) → HasNoTurn rs s n x
+pub turn_exit_none : (rs : List Row) (s : Block) (n : ℕ) (before inside : Statuses) (x : Marks) → slot x.around n ≡ Some before → Passes rs (map_of before) (map_of inside) → ((m : HeldMap) → Above (slot x.following n) m → IsBelow (map_of inside) m → ⊥) → HasNoTurn rs s n x
 turn_exit_none rs s n before inside x e p never a l h loc u =
     let b = inside_below rs (map_of before) (map_of inside) (a.around n) p (subst (λ o. Above o (a.around n)) e (u.around n)) in
-    never (a.behind n) (u.behind n) (map_trans (map_of inside) _ (a.behind n) b loc.2)
+    never (a.following n) (u.following n) (map_trans (map_of inside) _ (a.following n) b loc.2)
 
-pub turn_body_none : (rs : List Row) (s : Block) (n : ℕ) (before inside : Statuses) (x y : Marks) → slot x.around n ≡ Some before → Passes rs (map_of before) (map_of inside) → IsPutBehind n inside x y → HasNone (block_part (Some n) (n + 1) s) (map_of inside) y → HasNoTurn rs s n x
+pub turn_body_none : (rs : List Row) (s : Block) (n : ℕ) (before inside : Statuses) (x y : Marks) → slot x.around n ≡ Some before → Passes rs (map_of before) (map_of inside) → IsPutAfter n inside x y → HasNone (block_part (Some n) (n + 1) s) (map_of inside) y → HasNoTurn rs s n x
 turn_body_none rs s n before inside x y e p put never a l h loc u =
     let b = inside_below rs (map_of before) (map_of inside) (a.around n) p (subst (λ o. Above o (a.around n)) e (u.around n)) in
-    never a (map_after rs (a.around n)) b loc.3 (under_behind n inside x y a put (map_trans (map_of inside) _ (a.behind n) b loc.2) u)
+    never a (map_after rs (a.around n)) b loc.3 (under_after n inside x y a put (map_trans (map_of inside) _ (a.following n) b loc.2) u)
 
-pub turn_back_none : (rs : List Row) (s : Block) (n m : ℕ) (before inside back : Statuses) (x y z : Marks) → slot x.around n ≡ Some before → Passes rs (map_of before) (map_of inside) → IsPutBehind n inside x y → IsWalked (block_part (Some n) (n + 1) s) (Some n) (n + 1) m (map_of inside) y z (Some back) → ((m : HeldMap) → Above (slot z.around n) m → IsBelow (map_of back) m → ⊥) → HasNoTurn rs s n x
+pub turn_back_none : (rs : List Row) (s : Block) (n m : ℕ) (before inside back : Statuses) (x y z : Marks) → slot x.around n ≡ Some before → Passes rs (map_of before) (map_of inside) → IsPutAfter n inside x y → IsWalked (block_part (Some n) (n + 1) s) (Some n) (n + 1) m (map_of inside) y z (Some back) → ((m : HeldMap) → Above (slot z.around n) m → IsBelow (map_of back) m → ⊥) → HasNoTurn rs s n x
 turn_back_none rs s n m before inside back x y z e p put w never a l h loc u =
     let t = turn_under rs s n m before inside x y z (Some back) e p put w a l h loc u in
     never (a.around n) (t.0.around n) (lies_when (map_of back) (a.around n) _ t.1 loc.4)
@@ -123,7 +123,7 @@ turning_stops rs s n x cur t never a l h loc u = never a l h loc (t.least a l h 
 
 pub turning_room : (rs : List Row) (s : Block) (n : ℕ) (x cur : Marks) → Turning rs s n x cur → HasRoom x None (n + 1) (n + 1 + size_block s) → HasRoom cur None (n + 1) (n + 1 + size_block s)
 turning_room rs s n x cur t r = record {
-  long = t.frame.long_behind ∙ r.long ∙ sym t.frame.long;
+  long = t.frame.long_after ∙ r.long ∙ sym t.frame.long;
   few = subst (λ w. w < 2 ^ 62) (sym t.frame.long) r.few;
   loop = tt;
   fits = subst (λ w. n + 1 + size_block s ≤ w) (sym t.frame.long) r.fits;
@@ -142,7 +142,7 @@ turned rs s n before x cur new some t p e =
       grown = grown_below _ _ some whole.frame.loop.around;
       some = p.some;
       can = subst (CanPass rs) same p.can;
-      exit = subst (λ g. IsBelow (map_after rs g) (map_in (slot new.behind n))) same p.exit;
+      exit = subst (λ g. IsBelow (map_after rs g) (map_in (slot new.following n))) same p.exit;
       local = subst (λ g. IsLocalBlock (notes_of new) (Some n) (n + 1) (map_after rs g) s) same p.local;
       keeps = p.keeps;
       back = subst (λ g. When (leads_block (notes_of new) (n + 1) (map_after rs g) s) (λ m. IsBelow m (map_in (slot new.around n)))) same p.back;
@@ -162,7 +162,7 @@ gap_less before o p e g never = subst (λ x. gap_in p < gap_in x) (sym e) (less 
     less None g never = absurd g
     less (Some k) g never = ⊎_elim (λ e. absurd (never (ap Some e))) (λ lt. lt) g.1
 
-pub loop_walked : (l : Option ℕ) (n : ℕ) (rs : List Row) (s : Block) (held exit : Statuses) (x y z : Marks) → HasRoom x l n (n + (1 + size_block s)) → IsPutAround n held x y → IsTurned rs s n y z → slot z.behind n ≡ Some exit → IsWalked (form_part l n (loop rs s)) l n (n + (1 + size_block s)) (map_of held) x z (Some exit)
+pub loop_walked : (l : Option ℕ) (n : ℕ) (rs : List Row) (s : Block) (held exit : Statuses) (x y z : Marks) → HasRoom x l n (n + (1 + size_block s)) → IsPutAround n held x y → IsTurned rs s n y z → slot z.following n ≡ Some exit → IsWalked (form_part l n (loop rs s)) l n (n + (1 + size_block s)) (map_of held) x z (Some exit)
 loop_walked l n rs s held exit x y z room put t e =
     let f = frame_trans (Some n) None (n + 1) (n + 1 + size_block s) x y z (put_around_frame n (n + 1) (n + 1 + size_block s) held x y put) t.frame in
     let f' = frame_wider (Some n) None (n + 1) (n + 1 + size_block s) (n + 1) (n + (1 + size_block s)) x z (omega arith) (omega arith) f in
@@ -173,7 +173,7 @@ loop_walked l n rs s held exit x y z room put t e =
       frame = frame_loop l n (n + 1) (n + (1 + size_block s)) n x z (omega arith) (omega arith) (omega arith) room.apart f';
       least = λ a k below loc u.
           let v = t.least a l k loc (under_around n held x y a put (map_trans (map_of held) k (a.around n) below loc.0) u) in
-          (v, subst (λ o. Above o (a.behind n)) e (v.behind n));
+          (v, subst (λ o. Above o (a.following n)) e (v.following n));
     }
 
 pub loop_entry_none : (l : Option ℕ) (n : ℕ) (rs : List Row) (s : Block) (held : Statuses) (x : Marks) → ((m : HeldMap) → Above (slot x.around n) m → IsBelow (map_of held) m → ⊥) → HasNone (form_part l n (loop rs s)) (map_of held) x
@@ -186,24 +186,24 @@ loop_turns_none l n rs s held x y put never a k below loc u =
 -- ---- arms
 
 same_chain : (a b c : Notes) (n m : ℕ) → IsSameOn a b n m → IsSameOn b c n m → IsSameOn a c n m
-same_chain a b c n m p q = record { around = λ i u v. p.around i u v ∙ q.around i u v; behind = λ i u v. p.behind i u v ∙ q.behind i u v }
+same_chain a b c n m p q = record { around = λ i u v. p.around i u v ∙ q.around i u v; following = λ i u v. p.following i u v ∙ q.following i u v }
 
 grown_chain : (a b c : Notes) (l : Option ℕ) → IsGrownAt a b l → IsGrownAt b c l → IsGrownAt a c l
 grown_chain a b c l p q = record { each = λ k h m. q.each k h (p.each k h m) }
 
 same_self : (a : Notes) (n m : ℕ) → IsSameOn a a n m
-same_self a n m = record { around = λ i u v. refl; behind = λ i u v. refl }
+same_self a n m = record { around = λ i u v. refl; following = λ i u v. refl }
 
 pub record Arming (l : Option ℕ) (n : ℕ) (arms : List FlowArm) (h : HeldMap) (x : Marks) (i at : ℕ) (cur : Marks) (p : Bool) : Type 0 where
   pub size : at + size_arms (arms_view (drop i arms)) ≡ n + 1 + size_arms (arms_view arms)
   pub low : n + 1 ≤ at
   pub passes : (p || passes_arms (arms_view (drop i arms))) ≡ passes_arms (arms_view arms)
-  pub there : p ≡ true → IsSome (slot cur.behind n)
+  pub there : p ≡ true → IsSome (slot cur.following n)
   pub frame : IsFrame l (Some n) (n + 1) at x cur
-  pub local : (b : Notes) → IsSameOn (notes_of cur) b (n + 1) at → IsGrownAt (notes_of cur) b l → (IsSome (slot cur.behind n) → IsBelow (map_in (slot cur.behind n)) (b.behind n)) →
-      IsLocalArms b l at h (arms_view (drop i arms)) (b.behind n) → IsLocalArms b l (n + 1) h (arms_view arms) (b.behind n)
+  pub local : (b : Notes) → IsSameOn (notes_of cur) b (n + 1) at → IsGrownAt (notes_of cur) b l → (IsSome (slot cur.following n) → IsBelow (map_in (slot cur.following n)) (b.following n)) →
+      IsLocalArms b l at h (arms_view (drop i arms)) (b.following n) → IsLocalArms b l (n + 1) h (arms_view arms) (b.following n)
   pub keeps : (b : Marks) → StayIn cur b (n + 1) at → KeepsArms b at (arms_view (drop i arms)) → KeepsArms b (n + 1) (arms_view arms)
-  pub least : (a : Notes) (j : HeldMap) → IsBelow h j → IsLocalArms a l (n + 1) j (arms_view arms) (a.behind n) → IsUnder x a → IsUnder cur a × IsLocalArms a l at j (arms_view (drop i arms)) (a.behind n)
+  pub least : (a : Notes) (j : HeldMap) → IsBelow h j → IsLocalArms a l (n + 1) j (arms_view arms) (a.following n) → IsUnder x a → IsUnder cur a × IsLocalArms a l at j (arms_view (drop i arms)) (a.following n)
 
 pub arming_first : (l : Option ℕ) (n : ℕ) (arms : List FlowArm) (h : HeldMap) (x : Marks) → Arming l n arms h x 0 (n + 1) x false
 arming_first l n arms h x = record {
@@ -252,21 +252,21 @@ arming_more l n arms h x i at cur new p a inside e room g pass way =
       size = omega (arith, g.size, sizes);
       low = omega (arith, g.low);
       passes = or_assoc p (passes_block (block_view (out-FlowArm a).body)) (passes_arms (arms_view (drop (i + 1) arms))) ∙ ap (λ t. p || passes_arms t) (sym split) ∙ g.passes;
-      there = λ e. ⊎_elim (λ q. grown_some _ _ (g.there q) way.frame.join.behind) (λ q. way_there l n at s inside cur new way q) (or_true p (passes_block s) e);
+      there = λ e. ⊎_elim (λ q. grown_some _ _ (g.there q) way.frame.join.following) (λ q. way_there l n at s inside cur new way q) (or_true p (passes_block s) e);
       frame = frame_trans l (Some n) (n + 1) (at + size_block (block_view (out-FlowArm a).body)) x cur new (frame_wider l (Some n) (n + 1) at (n + 1) (at + size_block (block_view (out-FlowArm a).body)) x cur (omega arith) (omega arith) g.frame) (frame_wider l (Some n) at (at + size_block (block_view (out-FlowArm a).body)) (n + 1) (at + size_block (block_view (out-FlowArm a).body)) cur new g.low (omega arith) way.frame);
       local = λ b same grown more loc.
           let part = same_part (notes_of new) b (n + 1) (at + size_block (block_view (out-FlowArm a).body)) at (at + size_block (block_view (out-FlowArm a).body)) same g.low (omega arith) in
           let rows = rows_view (out-FlowArm a).rows in
           let inner = local_block_grown (block_view (out-FlowArm a).body) (notes_of new) b l at inside part grown way.way.local in
-          let into = when_same _ _ _ (λ m. IsBelow m (b.behind n)) (leads_block_same (block_view (out-FlowArm a).body) (notes_of new) b at inside part) (λ m q. map_trans m (map_in (slot new.behind n)) (b.behind n) q.1 (more q.0)) way.way.into in
+          let into = when_same _ _ _ (λ m. IsBelow m (b.following n)) (leads_block_same (block_view (out-FlowArm a).body) (notes_of new) b at inside part) (λ m q. map_trans m (map_in (slot new.following n)) (b.following n) q.1 (more q.0)) way.way.into in
           g.local b
           (same_chain (notes_of cur) (notes_of new) b (n + 1) at before (same_part (notes_of new) b (n + 1) (at + size_block (block_view (out-FlowArm a).body)) (n + 1) at same (omega arith) (omega arith)))
           (grown_chain (notes_of cur) (notes_of new) b l meets grown)
-          (λ some. map_trans (map_in (slot cur.behind n)) (map_in (slot new.behind n)) (b.behind n) (grown_below _ _ some way.frame.join.behind) (more (grown_some _ _ some way.frame.join.behind)))
-          (subst (λ t. IsLocalArms b l at h t (b.behind n)) (sym split) (
+          (λ some. map_trans (map_in (slot cur.following n)) (map_in (slot new.following n)) (b.following n) (grown_below _ _ some way.frame.join.following) (more (grown_some _ _ some way.frame.join.following)))
+          (subst (λ t. IsLocalArms b l at h t (b.following n)) (sym split) (
             pass.can,
             subst (λ k. IsLocalBlock b l at k (block_view (out-FlowArm a).body)) pass.after inner,
-            subst (λ k. When (leads_block b at k (block_view (out-FlowArm a).body)) (λ m. IsBelow m (b.behind n))) pass.after into,
+            subst (λ k. When (leads_block b at k (block_view (out-FlowArm a).body)) (λ m. IsBelow m (b.following n))) pass.after into,
             loc,
           ));
       keeps = λ b stay more.
@@ -275,7 +275,7 @@ arming_more l n arms h x i at cur new p a inside e room g pass way =
           g.keeps b (stay_chain cur new b (n + 1) at stays (stay_part new b (n + 1) end (n + 1) at stay (omega arith) (omega arith))) (subst (KeepsArms b at) (sym split) (inner, more));
       least = λ b j below loc u.
           let v = g.least b j below loc u in
-          let w = subst (λ t. IsLocalArms b l at j t (b.behind n)) split v.1 in
+          let w = subst (λ t. IsLocalArms b l at j t (b.following n)) split v.1 in
           (way.least b (map_after (rows_view (out-FlowArm a).rows) j) (inside_below (rows_view (out-FlowArm a).rows) h inside j pass below) w.1 w.2 v.0, w.3);
     }
   where
@@ -297,8 +297,8 @@ arming_ends l n arms h x i at cur p past g =
     let all : drop i arms ≡ [] = drop_all i arms past in
     let size : at ≡ n + 1 + size_arms (arms_view arms) = omega (arith, g.size, ap (λ t. size_arms (arms_view t)) all) in
     record {
-      local = g.local (notes_of cur) (same_self (notes_of cur) (n + 1) at) (record { each = λ k h m. m }) (λ some. map_refl (map_in (slot cur.behind n)))
-          (subst (λ t. IsLocalArms (notes_of cur) l at h (arms_view t) (map_in (slot cur.behind n))) (sym all) tt);
+      local = g.local (notes_of cur) (same_self (notes_of cur) (n + 1) at) (record { each = λ k h m. m }) (λ some. map_refl (map_in (slot cur.following n)))
+          (subst (λ t. IsLocalArms (notes_of cur) l at h (arms_view t) (map_in (slot cur.following n))) (sym all) tt);
       keeps = g.keeps cur (stay_self cur (n + 1) at) (subst (λ t. KeepsArms cur at (arms_view t)) (sym all) tt);
       there = λ e. g.there (arming_passes l n arms h x i at cur p past g ∙ e);
       frame = subst (λ t. IsFrame l (Some n) (n + 1) t x cur) size g.frame;
@@ -313,13 +313,13 @@ arming_at l n arms h x i at cur p past g =
 pub arming_rows_none : (l : Option ℕ) (n : ℕ) (arms : List FlowArm) (h : HeldMap) (x : Marks) (i at : ℕ) (cur : Marks) (p : Bool) (a : FlowArm) → drop i arms ≡ a ∷ drop (i + 1) arms → Arming l n arms h x i at cur p → (CanPass (rows_view (out-FlowArm a).rows) h → ⊥) → HasNoArms l n (arms_view arms) h x
 arming_rows_none l n arms h x i at cur p a e g never b j below loc u =
     let v = g.least b j below loc u in
-    let w = subst (λ t. IsLocalArms b l at j t (b.behind n)) (arms_split arms i a e) v.1 in
+    let w = subst (λ t. IsLocalArms b l at j t (b.following n)) (arms_split arms i a e) v.1 in
     never (can_below (rows_view (out-FlowArm a).rows) h j below w.0)
 
 pub arming_way_none : (l : Option ℕ) (n : ℕ) (arms : List FlowArm) (h : HeldMap) (x : Marks) (i at : ℕ) (cur : Marks) (p : Bool) (a : FlowArm) (inside : HeldMap) → drop i arms ≡ a ∷ drop (i + 1) arms → Arming l n arms h x i at cur p → Passes (rows_view (out-FlowArm a).rows) h inside → HasNoWay l n at (block_view (out-FlowArm a).body) inside cur → HasNoArms l n (arms_view arms) h x
 arming_way_none l n arms h x i at cur p a inside e g pass never b j below loc u =
     let v = g.least b j below loc u in
-    let w = subst (λ t. IsLocalArms b l at j t (b.behind n)) (arms_split arms i a e) v.1 in
+    let w = subst (λ t. IsLocalArms b l at j t (b.following n)) (arms_split arms i a e) v.1 in
     never b (map_after (rows_view (out-FlowArm a).rows) j) (inside_below (rows_view (out-FlowArm a).rows) h inside j pass below) w.1 w.2 v.0
 
 -- ---- lists

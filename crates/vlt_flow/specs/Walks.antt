@@ -43,10 +43,10 @@ pub record Passes (rs : List Row) (old new : HeldMap) : Type 0 where
   pub can : CanPass rs old
   pub after : new ≡ map_after rs old
 
--- the maps kept so far, by statement: at the heads of loops, and behind loops and choices
+-- the maps kept so far, by statement: at the heads of loops, and after loops and choices
 pub record Marks : Type 0 where
   pub around : List (Option Statuses)
-  pub behind : List (Option Statuses)
+  pub following : List (Option Statuses)
 
 abbrev pub slot : List (Option Statuses) → ℕ → Option Statuses
 slot xs i = slice_index_or xs i None
@@ -60,7 +60,7 @@ maybe_map None = None
 maybe_map (Some h) = Some (map_of h)
 
 abbrev pub notes_of : Marks → Notes
-notes_of k = record { around = λ i. map_in (slot k.around i); behind = λ i. map_in (slot k.behind i) }
+notes_of k = record { around = λ i. map_in (slot k.around i); following = λ i. map_in (slot k.following i) }
 
 -- The maps of the statement of this number, and of those inside it, are kept wherever something
 -- comes to them: both of a loop, and that after a choice that can be passed. Nothing comes to a
@@ -68,13 +68,13 @@ notes_of k = record { around = λ i. map_in (slot k.around i); behind = λ i. ma
 abbrev mutual
   pub Keeps : Marks → ℕ → Flow → Type 0
   Keeps k n (choose rs s t) =
-      ((passes_block s || passes_block t) ≡ true → IsSome (slot k.behind n)) ×
+      ((passes_block s || passes_block t) ≡ true → IsSome (slot k.following n)) ×
       KeepsBlock k (n + 1) s ×
       KeepsBlock k (n + 1 + size_block s) t
   Keeps k n (while_form rs s) =
-      IsSome (slot k.around n) × IsSome (slot k.behind n) × KeepsBlock k (n + 1) s
+      IsSome (slot k.around n) × IsSome (slot k.following n) × KeepsBlock k (n + 1) s
   Keeps k n (switch rs arms end) =
-      (passes_arms arms ≡ true → IsSome (slot k.behind n)) × KeepsArms k (n + 1) arms
+      (passes_arms arms ≡ true → IsSome (slot k.following n)) × KeepsArms k (n + 1) arms
   Keeps k n (scope s) = KeepsBlock k (n + 1) s
   Keeps k n (focus rs s es) = KeepsBlock k (n + 1) s
   Keeps k n _ = Unit {0}
@@ -99,7 +99,7 @@ Above (Some h) m = IsBelow (map_of h) m
 -- each map kept lies below that of the annotation
 pub record IsUnder (k : Marks) (a : Notes) : Type 0 where
   pub around : (i : ℕ) → Above (slot k.around i) (a.around i)
-  pub behind : (i : ℕ) → Above (slot k.behind i) (a.behind i)
+  pub following : (i : ℕ) → Above (slot k.following i) (a.following i)
 
 -- nothing came before; or the map is the same, or above and nearer to the largest
 abbrev pub Grown : Option Statuses → Option Statuses → Type 0
@@ -116,11 +116,11 @@ pub record IsInto (o : Option Statuses) (h : Statuses) (new : Option Statuses) :
 
 pub record IsSameAt (i : ℕ) (old new : Marks) : Type 0 where
   pub around : slot new.around i ≡ slot old.around i
-  pub behind : slot new.behind i ≡ slot old.behind i
+  pub following : slot new.following i ≡ slot old.following i
 
 pub record IsGrownSlot (i : ℕ) (old new : Marks) : Type 0 where
   pub around : Grown (slot old.around i) (slot new.around i)
-  pub behind : Grown (slot old.behind i) (slot new.behind i)
+  pub following : Grown (slot old.following i) (slot new.following i)
 
 abbrev pub ForLoop : Option ℕ → (ℕ → Type 0) → Type 0
 ForLoop None P = Unit {0}
@@ -133,7 +133,7 @@ IsOther i (Some j) = i ≢ j
 -- Only the maps of the statements from n up to m changed, and those of l and k grew.
 pub record IsFrame (l k : Option ℕ) (n m : ℕ) (old new : Marks) : Type 0 where
   pub long : length new.around ≡ length old.around
-  pub long_behind : length new.behind ≡ length old.behind
+  pub long_after : length new.following ≡ length old.following
   pub before : (i : ℕ) → i < n → IsOther i l → IsOther i k → IsSameAt i old new
   pub after : (i : ℕ) → m ≤ i → IsOther i l → IsOther i k → IsSameAt i old new
   pub loop : ForLoop l (λ i. IsGrownSlot i old new)
@@ -143,11 +143,11 @@ pub record IsFrame (l k : Option ℕ) (n m : ℕ) (old new : Marks) : Type 0 whe
 pub record IsLoop (k : Marks) (i : ℕ) : Type 0 where
   pub within : i < length k.around
   pub around : IsSome (slot k.around i)
-  pub behind : IsSome (slot k.behind i)
+  pub following : IsSome (slot k.following i)
 
 -- there is a place for each statement from n up to m; the loop l round them isn't one of them
 pub record HasRoom (k : Marks) (l : Option ℕ) (n m : ℕ) : Type 0 where
-  pub long : length k.behind ≡ length k.around
+  pub long : length k.following ≡ length k.around
   pub few : length k.around < 2 ^ 62
   pub loop : ForLoop l (IsLoop k)
   pub fits : m ≤ length k.around
@@ -200,21 +200,21 @@ HasNone p h old = (a : Notes) (k : HeldMap) → IsBelow h k → p.local a k → 
 
 -- a way of the choice k
 pub record IsWay (l : Option ℕ) (k n : ℕ) (s : Block) (h : HeldMap) (new : Marks) : Type 0 where
-  pub into : When (leads_block (notes_of new) n h s) (λ m. IsSome (slot new.behind k) × IsBelow m (map_in (slot new.behind k)))
+  pub into : When (leads_block (notes_of new) n h s) (λ m. IsSome (slot new.following k) × IsBelow m (map_in (slot new.following k)))
   pub local : IsLocalBlock (notes_of new) l n h s
   pub keeps : KeepsBlock new n s
 
 pub record IsJoinedWay (l : Option ℕ) (k n : ℕ) (s : Block) (h : HeldMap) (old new : Marks) : Type 0 where
   pub way : IsWay l k n s h new
   pub frame : IsFrame l (Some k) n (n + size_block s) old new
-  pub least : (a : Notes) (j : HeldMap) → IsBelow h j → IsLocalBlock a l n j s → When (leads_block a n j s) (λ m. IsBelow m (a.behind k)) → IsUnder old a → IsUnder new a
+  pub least : (a : Notes) (j : HeldMap) → IsBelow h j → IsLocalBlock a l n j s → When (leads_block a n j s) (λ m. IsBelow m (a.following k)) → IsUnder old a → IsUnder new a
 
 abbrev pub HasNoWay : (l : Option ℕ) (k n : ℕ) (s : Block) (h : HeldMap) (old : Marks) → Type 0
-HasNoWay l k n s h old = (a : Notes) (j : HeldMap) → IsBelow h j → IsLocalBlock a l n j s → When (leads_block a n j s) (λ m. IsBelow m (a.behind k)) → IsUnder old a → ⊥
+HasNoWay l k n s h old = (a : Notes) (j : HeldMap) → IsBelow h j → IsLocalBlock a l n j s → When (leads_block a n j s) (λ m. IsBelow m (a.following k)) → IsUnder old a → ⊥
 
--- the map behind the choice n, if it can be passed
+-- the map after the choice n, if it can be passed
 abbrev pub IsPlace : Marks → ℕ → Bool → Option Statuses → Type 0
-IsPlace k n true o = IsSome o × (slot k.behind n ≡ o)
+IsPlace k n true o = IsSome o × (slot k.following n ≡ o)
 IsPlace k n false o = o ≡ None
 
 -- the rows at the end of a part, if it can be passed
@@ -246,8 +246,8 @@ pub record HasRoomFor (x : Marks) (l : Option ℕ) (k n m : ℕ) : Type 0 where
 -- a turn of a loop: its rows, its body, and the way back
 pub record IsTurn (rs : List Row) (s : Block) (n m : ℕ) (before : Statuses) (old new : Marks) : Type 0 where
   pub can : CanPass rs (map_of before)
-  pub exit : IsBelow (map_after rs (map_of before)) (map_in (slot new.behind n))
-  pub some : IsSome (slot new.behind n)
+  pub exit : IsBelow (map_after rs (map_of before)) (map_in (slot new.following n))
+  pub some : IsSome (slot new.following n)
   pub local : IsLocalBlock (notes_of new) (Some n) (n + 1) (map_after rs (map_of before)) s
   pub keeps : KeepsBlock new (n + 1) s
   pub back : When (leads_block (notes_of new) (n + 1) (map_after rs (map_of before)) s) (λ m. IsBelow m (map_in (slot new.around n)))
@@ -260,9 +260,9 @@ HasNoTurn rs s n old = (a : Notes) (l : Option ℕ) (h : HeldMap) → IsLocal a 
 -- turns of a loop, until its map no longer grows
 pub record IsTurned (rs : List Row) (s : Block) (n : ℕ) (old new : Marks) : Type 0 where
   pub grown : IsBelow (map_in (slot old.around n)) (map_in (slot new.around n))
-  pub some : IsSome (slot new.behind n)
+  pub some : IsSome (slot new.following n)
   pub can : CanPass rs (map_in (slot new.around n))
-  pub exit : IsBelow (map_after rs (map_in (slot new.around n))) (map_in (slot new.behind n))
+  pub exit : IsBelow (map_after rs (map_in (slot new.around n))) (map_in (slot new.following n))
   pub local : IsLocalBlock (notes_of new) (Some n) (n + 1) (map_after rs (map_in (slot new.around n))) s
   pub keeps : KeepsBlock new (n + 1) s
   pub back : When (leads_block (notes_of new) (n + 1) (map_after rs (map_in (slot new.around n))) s) (λ m. IsBelow m (map_in (slot new.around n)))
@@ -271,14 +271,14 @@ pub record IsTurned (rs : List Row) (s : Block) (n : ℕ) (old new : Marks) : Ty
 
 -- the arms of the choice n
 pub record IsJoinedArms (l : Option ℕ) (n : ℕ) (arms : Arms) (h : HeldMap) (old new : Marks) : Type 0 where
-  pub local : IsLocalArms (notes_of new) l (n + 1) h arms (map_in (slot new.behind n))
+  pub local : IsLocalArms (notes_of new) l (n + 1) h arms (map_in (slot new.following n))
   pub keeps : KeepsArms new (n + 1) arms
-  pub there : passes_arms arms ≡ true → IsSome (slot new.behind n)
+  pub there : passes_arms arms ≡ true → IsSome (slot new.following n)
   pub frame : IsFrame l (Some n) (n + 1) (n + 1 + size_arms arms) old new
-  pub least : (a : Notes) (j : HeldMap) → IsBelow h j → IsLocalArms a l (n + 1) j arms (a.behind n) → IsUnder old a → IsUnder new a
+  pub least : (a : Notes) (j : HeldMap) → IsBelow h j → IsLocalArms a l (n + 1) j arms (a.following n) → IsUnder old a → IsUnder new a
 
 abbrev pub HasNoArms : (l : Option ℕ) (n : ℕ) (arms : Arms) (h : HeldMap) (old : Marks) → Type 0
-HasNoArms l n arms h old = (a : Notes) (j : HeldMap) → IsBelow h j → IsLocalArms a l (n + 1) j arms (a.behind n) → IsUnder old a → ⊥
+HasNoArms l n arms h old = (a : Notes) (j : HeldMap) → IsBelow h j → IsLocalArms a l (n + 1) j arms (a.following n) → IsUnder old a → ⊥
 
 -- one statement, if something comes to it
 abbrev pub IsWalkedOn : (l : Option ℕ) (n : ℕ) (s : Flow) (o : Option Statuses) (old new : Marks) (r : Option Statuses) → Type 0

@@ -4,7 +4,7 @@ ghost use Rattle.std.specs.Prelude.{◌≡◌, ◌≢◌, ◌<◌, ◌↔◌, �
 ghost use Rattle.std.specs.Option.{option_copied};
 ghost use Rattle.vlt_core.specs.Maps.{HeldMap, IsBelow};
 ghost use Rattle.vlt_keyset.specs.Held.{map_of};
-ghost use Rattle.vlt_flow.specs.Walks.{IfHalted, slot, Above, IsInto, IsSameAt};
+ghost use Rattle.vlt_flow.specs.Walks.{IfHalted, slot, Above, IsInto};
 
 use crate::errors::Halt;
 use std::alloc::{AllocError, Global};
@@ -16,7 +16,7 @@ use vlt_keyset::Held;
 #[derive(Drop)]
 pub struct Kept {
     around: Vec<Option<Held>>,
-    behind: Vec<Option<Held>>,
+    following: Vec<Option<Held>>,
 }
 
 impl Model for Kept {
@@ -24,7 +24,7 @@ impl Model for Kept {
 
     ghost Value = { Marks };
 
-    ghost view = { λ k. record { around = k.around.items; behind = k.behind.items } };
+    ghost view = { λ k. record { around = k.around.items; following = k.following.items } };
 }
 
 /// Unites a map with what came before.
@@ -63,18 +63,19 @@ fn join_copy_into(alloc: Global, slot: &mut Option<Held>, held: &Held) -> Result
     }
 }
 
-/// Unites a map with the one kept behind the loop n; it is copied where none is kept yet.
-pub fn join_copy_behind(alloc: Global, kept: &mut Kept, n: usize, held: &Held) -> Result<(), Halt>
-    requires { n < length kept.old.behind }
-    ensures long { length kept.new.behind ≡ length kept.old.behind }
-    ensures into { OnOk result (IsInto (slot kept.old.behind n) held.now (slot kept.new.behind n)) }
+/// Unites a map with the one kept after the loop n; it is copied where none is kept yet.
+pub fn join_copy_after(alloc: Global, kept: &mut Kept, n: usize, held: &Held) -> Result<(), Halt>
+    requires { n < length kept.old.following }
+    ensures long { length kept.new.following ≡ length kept.old.following }
+    ensures into { OnOk result
+        (IsInto (slot kept.old.following n) held.now (slot kept.new.following n)) }
     ensures others { (i : ℕ) → i ≢ n →
-        slot kept.new.behind i ≡ slot kept.old.behind i }
+        slot kept.new.following i ≡ slot kept.old.following i }
     ensures around { kept.new.around ≡ kept.old.around }
-    ensures refused { IfHalted result ((m : HeldMap) → Above (slot kept.old.behind n) m →
+    ensures refused { IfHalted result ((m : HeldMap) → Above (slot kept.old.following n) m →
         IsBelow (map_of held.now) m → ⊥) }
 {
-    join_copy_into(alloc, &mut kept.behind[n], held)
+    join_copy_into(alloc, &mut kept.following[n], held)
 }
 
 fn copy_in(alloc: Global, slot: &Option<Held>) -> Result<Held, Memory>
@@ -96,13 +97,13 @@ pub fn copy_around(alloc: Global, kept: &Kept, n: usize) -> Result<Held, Memory>
     copy_in(alloc, &kept.around[n])
 }
 
-/// A copy of the map behind the loop or choice n.
-pub fn copy_behind(alloc: Global, kept: &Kept, n: usize) -> Result<Held, Memory>
-    requires within { n < length kept.now.behind }
-    requires some { IsSome (slot kept.now.behind n) }
-    ensures same { IfOk result (λ h. slot kept.now.behind n ≡ Some h) }
+/// A copy of the map after the loop or choice n.
+pub fn copy_after(alloc: Global, kept: &Kept, n: usize) -> Result<Held, Memory>
+    requires within { n < length kept.now.following }
+    requires some { IsSome (slot kept.now.following n) }
+    ensures same { IfOk result (λ h. slot kept.now.following n ≡ Some h) }
 {
-    copy_in(alloc, &kept.behind[n])
+    copy_in(alloc, &kept.following[n])
 }
 
 fn nothing(alloc: Global, count: usize) -> Result<Vec<Option<Held>>, AllocError>
@@ -120,13 +121,13 @@ impl Kept {
     /// Nothing is kept yet.
     pub fn open(alloc: Global, count: usize) -> Result<Kept, AllocError>
         ensures around { IfOk result (λ k. length k.around ≡ count) }
-        ensures behind { IfOk result (λ k. length k.behind ≡ count) }
+        ensures following { IfOk result (λ k. length k.following ≡ count) }
         ensures none { IfOk result (λ k. (i : ℕ) → slot k.around i ≡ None) }
-        ensures none_behind { IfOk result (λ k. (i : ℕ) → slot k.behind i ≡ None) }
+        ensures none_after { IfOk result (λ k. (i : ℕ) → slot k.following i ≡ None) }
     {
         let around = nothing(alloc, count)?;
-        let behind = nothing(alloc, count)?;
-        Ok(Kept { around, behind })
+        let following = nothing(alloc, count)?;
+        Ok(Kept { around, following })
     }
 
     pub fn join_around(&mut self, n: usize, held: Held) -> Result<(), Halt>
@@ -135,24 +136,25 @@ impl Kept {
         ensures into { OnOk result (IsInto (slot self.old.around n) held (slot self.new.around n)) }
         ensures others { (i : ℕ) → i ≢ n →
             slot self.new.around i ≡ slot self.old.around i }
-        ensures behind { self.new.behind ≡ self.old.behind }
+        ensures following { self.new.following ≡ self.old.following }
         ensures refused { IfHalted result ((m : HeldMap) → Above (slot self.old.around n) m →
             IsBelow (map_of held) m → ⊥) }
     {
         join_into(&mut self.around[n], held)
     }
 
-    pub fn join_behind(&mut self, n: usize, held: Held) -> Result<(), Halt>
-        requires { n < length self.old.behind }
-        ensures long { length self.new.behind ≡ length self.old.behind }
-        ensures into { OnOk result (IsInto (slot self.old.behind n) held (slot self.new.behind n)) }
+    pub fn join_after(&mut self, n: usize, held: Held) -> Result<(), Halt>
+        requires { n < length self.old.following }
+        ensures long { length self.new.following ≡ length self.old.following }
+        ensures into { OnOk result
+            (IsInto (slot self.old.following n) held (slot self.new.following n)) }
         ensures others { (i : ℕ) → i ≢ n →
-            slot self.new.behind i ≡ slot self.old.behind i }
+            slot self.new.following i ≡ slot self.old.following i }
         ensures around { self.new.around ≡ self.old.around }
-        ensures refused { IfHalted result ((m : HeldMap) → Above (slot self.old.behind n) m →
+        ensures refused { IfHalted result ((m : HeldMap) → Above (slot self.old.following n) m →
             IsBelow (map_of held) m → ⊥) }
     {
-        join_into(&mut self.behind[n], held)
+        join_into(&mut self.following[n], held)
     }
 
     /// The map at the head of the loop n, if one is kept.
@@ -163,12 +165,12 @@ impl Kept {
         self.around[n].as_ref()
     }
 
-    /// The map behind the loop or choice n, if one is kept.
-    pub fn behind(&self, n: usize) -> Option<&Held>
-        requires { n < length self.now.behind }
-        ensures { option_copied result ≡ slot self.now.behind n }
+    /// The map after the loop or choice n, if one is kept.
+    pub fn following(&self, n: usize) -> Option<&Held>
+        requires { n < length self.now.following }
+        ensures { option_copied result ≡ slot self.now.following n }
     {
-        self.behind[n].as_ref()
+        self.following[n].as_ref()
     }
 
     /// Whether the map at the head of the loop is this one.

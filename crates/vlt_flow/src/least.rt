@@ -21,7 +21,8 @@ pub fn least_maps(alloc: Global, start: Held, body: &FlowBlock) -> Result<Kept, 
     ensures ok { IfOk result (λ k. IsLeastLocal (block_view body.now) (map_of start) k) }
     ensures keeps { IfOk result (λ k. KeepsBlock k 0 (block_view body.now)) }
     ensures around { IfOk result (λ k. length k.around ≡ size_block (block_view body.now)) }
-    ensures behind { IfOk result (λ k. length k.behind ≡ size_block (block_view body.now)) }
+    ensures following { IfOk result
+        (λ k. length k.following ≡ size_block (block_view body.now)) }
     ensures few { IfOk result (λ k. length k.around < 2 ^ 63) }
     ensures refused { IfRefused result ((a : Notes) →
         IsLocalBlock a None 0 (map_of start) (block_view body.now) → ⊥) }

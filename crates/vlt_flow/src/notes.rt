@@ -1,4 +1,4 @@
-//! The least annotation of a body as a list of notes: from a function to the maps at its loops and behind its choices.
+//! The least annotation of a body as a list of notes: from a function to the maps at its loops and after its choices.
 //! Read `vlt_core/specs/Least.antt` first, then `specs/Notes/Listed.antt`.
 //! Used by: certificates, which are to come.
 

@@ -1,7 +1,6 @@
 //! Rows, one after another.
 
-ghost use Rattle.std.specs.Prelude.{◌≡◌, ◌∷◌, [], map, OnOk, IfOk};
-ghost use Rattle.vlt_core.specs.View.{tok_of};
+ghost use Rattle.std.specs.Prelude.{◌≡◌, ◌∷◌, [], map, OnOk};
 ghost use Rattle.vlt_core.specs.HeldView.{row_of, toks_of};
 ghost use Rattle.vlt_rows.specs.FlowView.{rows_view};
 ghost use Rattle.vlt_core.specs.Maps.{CanPass, away_row};

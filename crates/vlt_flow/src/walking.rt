@@ -11,7 +11,7 @@ ghost use Rattle.vlt_flow.specs.Walks.{IfHalted, Passes, slot, HasRoom, IsWalked
 
 use crate::count::count_form;
 use crate::errors::Halt;
-use crate::kept::{Kept, copy_around, copy_behind, join_copy_behind};
+use crate::kept::{Kept, copy_after, copy_around, join_copy_after};
 use crate::pass::{pass_gone, pass_rows};
 use std::alloc::Global;
 use vlt_base::either;
@@ -19,14 +19,14 @@ use vlt_core::{Row, Tok};
 use vlt_keyset::Held;
 use vlt_rows::{Flow, FlowArm, FlowBlock, FlowStmt};
 
-/// The map behind a part, if it can be passed, and the number of the statement behind it.
+/// The map after a part, if it can be passed, and the number of the statement after it.
 #[derive(Drop)]
 pub struct Walked {
     pub held: Option<Held>,
     pub at: usize,
 }
 
-/// Whether a way can be passed, and the number of the statement behind it.
+/// Whether a way can be passed, and the number of the statement after it.
 #[derive(Clone, Copy)]
 struct Way {
     passes: bool,
@@ -61,16 +61,16 @@ fn pass(held: Held, rows: &[Row]) -> Result<Held, Halt>
     Ok(held)
 }
 
-/// The map behind a choice, if one of its ways can be passed.
-fn behind(alloc: Global, kept: &Kept, n: usize, way: Way) -> Result<Walked, Halt>
-    requires within { n < length kept.now.behind }
-    requires some { way.passes ≡ true → IsSome (slot kept.now.behind n) }
+/// The map after a choice, if one of its ways can be passed.
+fn following(alloc: Global, kept: &Kept, n: usize, way: Way) -> Result<Walked, Halt>
+    requires within { n < length kept.now.following }
+    requires some { way.passes ≡ true → IsSome (slot kept.now.following n) }
     ensures place { IfOk result (λ w. IsPlace kept.now n way.passes w.held) }
     ensures at { IfOk result (λ w. w.at ≡ way.at) }
     ensures never { IfHalted result ⊥ }
 {
     let held = if way.passes {
-        Some(copy_behind(alloc, kept, n)?)
+        Some(copy_after(alloc, kept, n)?)
     } else {
         None
     };
@@ -122,7 +122,7 @@ fn jump(
     l: Option<usize>,
     held: Held,
 ) -> Result<(), Halt>
-    requires long { length kept.old.behind ≡ length kept.old.around }
+    requires long { length kept.old.following ≡ length kept.old.around }
     requires around { ForLoop l (IsLoop kept.old) }
     ensures ok { OnOk result (IsJump l continues (toks_of left.now)
         (map_of held) kept.old kept.new) }
@@ -137,7 +137,7 @@ fn jump(
             if continues {
                 kept.join_around(l, held)
             } else {
-                kept.join_behind(l, held)
+                kept.join_after(l, held)
             }
         }
     }
@@ -176,13 +176,13 @@ pub fn walk_form(
         Flow::While { rows, body } => {
             kept.join_around(n, held)?;
             let at = walk_turns(alloc, kept, body, rows.as_slice(), n)?;
-            let exit = copy_behind(alloc, kept, n)?;
+            let exit = copy_after(alloc, kept, n)?;
             Ok(comes(exit, at))
         }
         Flow::Switch { rows, arms, end } => {
             let inside = pass(held, rows.as_slice())?;
             let way = walk_arms(alloc, kept, arms.as_slice(), l, n, inside)?;
-            behind(alloc, kept, n, way)
+            following(alloc, kept, n, way)
         }
         Flow::Scope { body } => walk_block(alloc, kept, body, l, n + 1, held),
         Flow::Focus { rows, body, after } => {
@@ -230,10 +230,10 @@ fn walk_if(
         passes: either(first.passes, second.passes),
         at: second.at,
     };
-    behind(alloc, kept, n, way)
+    following(alloc, kept, n, way)
 }
 
-/// A way of the choice k: what comes to its end is joined behind the choice.
+/// A way of the choice k: what comes to its end is joined after the choice.
 #[cycle(walk)]
 fn walk_way(
     alloc: Global,
@@ -256,7 +256,7 @@ fn walk_way(
     match held {
         None => Ok(Way { passes: false, at }),
         Some(end) => {
-            kept.join_behind(k, end)?;
+            kept.join_after(k, end)?;
             Ok(Way { passes: true, at })
         }
     }
@@ -309,7 +309,7 @@ fn walk_turn(
         (block_view body.now) n kept.old) }
 {
     let inside = pass(before.copy(alloc)?, rows)?;
-    join_copy_behind(alloc, kept, n, &inside)?;
+    join_copy_after(alloc, kept, n, &inside)?;
     let Walked { held, at } = walk_block(alloc, kept, body, Some(n), n + 1, inside)?;
     match held {
         None => Ok(at),

@@ -1,7 +1,7 @@
 //! The heap.
 
-ghost use Rattle.std.specs.Prelude.{◌≡◌, ◌≢◌, ◌<◌, ◌≤◌, ◌+◌, ◌*◌, ◌++◌, ◌∷◌, [], ℕ, length, true, false, Some, None, IfOk, IfSome, IfNone, OnErr, slice_get, slice_set, vec_capacity};
-ghost use Rattle.vlt_heap.specs.Items.{Items, IsAt, with_state, with_parent, with_out};
+ghost use Rattle.std.specs.Prelude.{◌≡◌, ◌≢◌, ◌<◌, ◌≤◌, ◌+◌, ◌*◌, ◌++◌, ◌∷◌, [], ℕ, length, true, false, Some, None, IfOk, OnErr, slice_get};
+ghost use Rattle.vlt_heap.specs.Items.{with_state, with_parent, with_out};
 ghost use Rattle.vlt_heap.specs.declared.slots.Kind.{Kind};
 
 use crate::slots::{Kind, Obj, Slot, at, clear, grow_to, kind_at, put, put_kind};

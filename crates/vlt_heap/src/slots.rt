@@ -98,7 +98,7 @@ pub fn clear(cells: &mut Vec<Slot>, from: usize, count: u32)
         slice_get cells.new.items k ≡ Some (Slot.Number (pos 0)) }
     ensures before { (k : ℕ) → k < from →
         slice_get cells.new.items k ≡ slice_get cells.old.items k }
-    ensures behind { (k : ℕ) → from + count ≤ k →
+    ensures following { (k : ℕ) → from + count ≤ k →
         slice_get cells.new.items k ≡ slice_get cells.old.items k }
     ensures long { length cells.new.items ≡ length cells.old.items }
     ensures room { vec_capacity cells.new ≡ vec_capacity cells.old }

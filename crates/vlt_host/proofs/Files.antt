@@ -4,7 +4,7 @@ use Rattle.std.proofs.lemmas.List.{append-nil, append_assoc, length-append, leng
 use Rattle.vlt_numbers.specs.Ends.{are_ends}
 use Rattle.vlt_numbers.specs.Text.{is_one_of, line_ends, lines_of}
 use Rattle.vlt_numbers.proofs.Cuts.{lines_of-first}
-use Rattle.vlt_numbers.proofs.Reading.{line_in, behind_line, length-after_first, shorter}
+use Rattle.vlt_numbers.proofs.Reading.{line_in, after_line, length-after_first, shorter}
 use Rattle.vlt_host_meaning.specs.Calls.{HostCall}
 use Rattle.vlt_host_meaning.specs.declared.calls.HostArg.{HostArg}
 use Rattle.vlt_host.specs.CallsFile.{call_of_line, with_call, calls_from, calls_of}
@@ -116,13 +116,13 @@ one_read read line c (Err later) = refl
 module _ (text rest : List ℕ) (t : Tables) (r : ReadsFile text rest t) (some : 0 < length rest) where
   -- the next line is the first of those that are left
   first_left : after_read (calls_read t)
-      (with_call (next_line t) (call_of_line (line_in rest)) (calls_from (next_line t + 1) (lines_of (behind_line rest)))) ≡
+      (with_call (next_line t) (call_of_line (line_in rest)) (calls_from (next_line t + 1) (lines_of (after_line rest)))) ≡
       calls_of text
   first_left = ap (λ ls. after_read (calls_read t) (calls_from (next_line t) ls)) (sym (lines_of-first rest some)) ∙ r.calls
 
   pub reads_more : (new_names : List ℕ) (new_args : List HostArg) → PushesCall (line_in rest) t.names new_names t.args new_args →
       length new_names + length new_args ≤ length t.names + length t.args + length (line_in rest) →
-      ReadsFile text (behind_line rest) (with_next t new_names new_args)
+      ReadsFile text (after_line rest) (with_next t new_names new_args)
   reads_more new_names new_args p few =
       let within = length-after_first (is_one_of line_ends) rest some in
       let less = shorter (is_one_of line_ends) rest some in
@@ -130,11 +130,11 @@ module _ (text rest : List ℕ) (t : Tables) (r : ReadsFile text rest t) (some :
       let was_few_ends = r.few_ends in
       let was_few = r.few in
       let c : HostCall = record { name = p.name; args = map argument_of p.more } in
-      let others : Result (List HostCall) ℕ = calls_from (next_line t + 1) (lines_of (behind_line rest)) in
+      let others : Result (List HostCall) ℕ = calls_from (next_line t + 1) (lines_of (after_line rest)) in
       record {
         ordered = ordered_next t r.ordered (line_in rest) new_names new_args p;
         calls =
-            ap (λ n. after_read (calls_read (with_next t new_names new_args)) (calls_from (n + 1) (lines_of (behind_line rest)))) ends ∙
+            ap (λ n. after_read (calls_read (with_next t new_names new_args)) (calls_from (n + 1) (lines_of (after_line rest)))) ends ∙
             (ap (λ cs. after_read cs others) (one_more t r.ordered (line_in rest) new_names new_args p) ∙
             (sym (one_read (calls_read t) (next_line t) c others) ∙
             (ap (λ o. after_read (calls_read t) (with_call (next_line t) o others)) (sym p.is) ∙ first_left)));
@@ -145,7 +145,7 @@ module _ (text rest : List ℕ) (t : Tables) (r : ReadsFile text rest t) (some :
   pub stops : call_of_line (line_in rest) ≡ None → calls_of text ≡ Err (next_line t)
   stops none =
       sym first_left ∙
-      ap (λ o. after_read (calls_read t) (with_call (next_line t) o (calls_from (next_line t + 1) (lines_of (behind_line rest))))) none
+      ap (λ o. after_read (calls_read t) (with_call (next_line t) o (calls_from (next_line t + 1) (lines_of (after_line rest))))) none
 
 pub reads_all : (text : List ℕ) (t : Tables) → ReadsFile text [] t → calls_of text ≡ Ok (calls_read t)
 reads_all text t r = sym r.calls ∙ ap Ok (append-nil (calls_read t))

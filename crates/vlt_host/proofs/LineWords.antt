@@ -4,7 +4,7 @@ use Rattle.std.proofs.lemmas.Bool.{lt-ltb}
 use Rattle.std.proofs.lemmas.List.{append-nil, append_assoc, length_push, map-append}
 use Rattle.vlt_numbers.specs.Text.{is_one_of, blanks, words_of}
 use Rattle.vlt_numbers.proofs.Cuts.{words_of-first}
-use Rattle.vlt_numbers.proofs.Reading.{word_in, behind_word, shorter}
+use Rattle.vlt_numbers.proofs.Reading.{word_in, after_word, shorter}
 use Rattle.vlt_host_meaning.specs.Calls.{Argument}
 use Rattle.vlt_host_meaning.specs.declared.calls.HostArg.{HostArg}
 use Rattle.vlt_host.specs.CallsFile.{argument_in, with_argument, arguments_in}
@@ -19,25 +19,25 @@ pub record ReadsBlanks (line rest : List ℕ) : Type 0 where
   pub few : length rest ≤ length line
 
 pub blanks_more : (line rest : List ℕ) → ReadsBlanks line rest → 0 < length rest → length (word_in rest) ≡ 0 →
-    ReadsBlanks line (behind_word rest)
+    ReadsBlanks line (after_word rest)
 blanks_more line rest r some none = record {
   words = r.words ∙ words_none rest none;
   few = let l = shorter (is_one_of blanks) rest some in omega (arith, r.few);
 }
   where
-    words_none : (rest : List ℕ) → length (word_in rest) ≡ 0 → words_of rest ≡ words_of (behind_word rest)
+    words_none : (rest : List ℕ) → length (word_in rest) ≡ 0 → words_of rest ≡ words_of (after_word rest)
     words_none rest none =
-        words_of-first rest ∙ ap (λ n. cond (ltb 0 n) (word_in rest ∷ words_of (behind_word rest)) (words_of (behind_word rest))) none
+        words_of-first rest ∙ ap (λ n. cond (ltb 0 n) (word_in rest ∷ words_of (after_word rest)) (words_of (after_word rest))) none
 
 pub word_first : (line rest : List ℕ) → ReadsBlanks line rest → 0 < length (word_in rest) →
-    words_of line ≡ word_in rest ∷ words_of (behind_word rest)
+    words_of line ≡ word_in rest ∷ words_of (after_word rest)
 word_first line rest r some =
     r.words ∙ (words_of-first rest ∙
-    ap (λ t. cond t (word_in rest ∷ words_of (behind_word rest)) (words_of (behind_word rest))) (lt-ltb 0 (length (word_in rest)) some))
+    ap (λ t. cond t (word_in rest ∷ words_of (after_word rest)) (words_of (after_word rest))) (lt-ltb 0 (length (word_in rest)) some))
 
 -- ---- arguments
 
--- what words spell behind arguments that were read
+-- what words spell after arguments that were read
 abbrev pub after_arguments : List Argument → Option (List Argument) → Option (List Argument)
 after_arguments done None = None
 after_arguments done (Some more) = Some (done ++ more)

@@ -1,6 +1,6 @@
 //! The lines of a calls file.
 
-ghost use Rattle.std.specs.Prelude.{◌≡◌, ℕ, ◌≤◌, ◌+◌, Err, None, length, vec_len, OnOk, IfSome};
+ghost use Rattle.std.specs.Prelude.{◌≡◌, ℕ, ◌≤◌, ◌+◌, Err, None, length, vec_len, OnOk};
 ghost use Rattle.vlt_numbers.specs.Text.{words_of};
 ghost use Rattle.vlt_host.specs.CallsFile.{is_name, arguments_in, call_of_line};
 ghost use Rattle.vlt_host.specs.Pushed.{PushesArguments, PushesCall};

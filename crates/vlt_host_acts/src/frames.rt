@@ -7,7 +7,7 @@ ghost use Rattle.vlt_heap.specs.Items.{Items};
 ghost use Rattle.vlt_meaning.specs.World.{Object, Part, one, reference};
 ghost use Rattle.vlt_acts.specs.Values.Parts.{HasPart, HasPartAt, HaveValue, IsObject};
 ghost use Rattle.vlt_acts.specs.Values.Pushed.{HaveValues};
-ghost use Rattle.vlt_acts.specs.Values.Shown.{IsTable, IsGrown, key_at};
+ghost use Rattle.vlt_acts.specs.Values.Shown.{IsGrown, key_at};
 ghost use Rattle.vlt_acts.specs.Frames.Frames.{frame_end, IsRunning};
 ghost use Rattle.vlt_host_meaning.specs.Calls.{value_of_argument};
 ghost use Rattle.vlt_host_meaning.specs.Tables.{argument_of};

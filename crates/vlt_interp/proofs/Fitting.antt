@@ -11,7 +11,7 @@ use Rattle.vlt_interp.specs.declared.tasks.task.Task.{Task}
 use Rattle.vlt_interp.specs.declared.tasks.task.Task.TheVariants.{List as Listed, Closing, Turn, Unfocus, Back}
 use Rattle.vlt_interp.specs.Tasks.Sizes.{frame_slots}
 use Rattle.vlt_interp.specs.Tasks.Own.{IsOf}
-use Rattle.vlt_interp.specs.Tasks.Shown.{IsCaller, base_behind, depth_behind, ShowsTasks}
+use Rattle.vlt_interp.specs.Tasks.Shown.{IsCaller, base_after, depth_after, ShowsTasks}
 use Rattle.vlt_interp.proofs.OfTasks.Sizes.{greatest_at}
 use Rattle.vlt_interp.specs.Owned.{HoldOf}
 use Rattle.vlt_interp.proofs.Likeness.{of_all}
@@ -22,7 +22,7 @@ frame_fits p width f o =
     let k = of_all p (λ f. frame_end width 0 f ≤ frame_slots p width) (λ i f at. greatest_at (frame_end width 0) p.fns i f at) f o (λ h. h) in
     omega (arith, k)
 
--- the frame of the function at a depth begins behind those of the functions below
+-- the frame of the function at a depth begins after those of the functions below
 pub record IsLow (base depth slots : ℕ) : Type 0 where
   pub some : 1 ≤ depth
   pub low : base ≤ (depth - 1) * slots
@@ -77,4 +77,4 @@ pub as_many : (items : Items) (values : Values) (base depth : ℕ) (ts : List Ta
 as_many items values base depth [] [] h = refl
 as_many items values base depth [] (u ∷ us) h = absurd h
 as_many items values base depth (t ∷ ts) [] h = absurd h
-as_many items values base depth (t ∷ ts) (u ∷ us) h = let k = as_many items values (base_behind base t) (depth_behind depth t) ts us h.1 in omega (arith, k)
+as_many items values base depth (t ∷ ts) (u ∷ us) h = let k = as_many items values (base_after base t) (depth_after depth t) ts us h.1 in omega (arith, k)

@@ -132,19 +132,19 @@ module _ (r : Setup) (L : Func → Stmts → Type 0) (F : Func → Form → Type
 
   -- ---- moves
 
-  behind : (f : Func) (ss : Stmts) (ts : List Task) → In f (list ss ∷ ts) → In f ts
-  behind f ss ts s = record { func = s.func; tasks = s.tasks.1 }
+  following : (f : Func) (ss : Stmts) (ts : List Task) → In f (list ss ∷ ts) → In f ts
+  following f ss ts s = record { func = s.func; tasks = s.tasks.1 }
 
   list_holds : (f : Func) (ss : Stmts) (ts : List Task) (a : Step) → In f (list ss ∷ ts) → Holds (list_moves r f ss ts a)
-  list_holds f done ts (goes frame w) s = behind f done ts s
+  list_holds f done ts (goes frame w) s = following f done ts s
   list_holds f (next place form rest) ts (goes frame w) s =
       act_holds f form (list rest ∷ ts) frame w (record { func = s.func; tasks = (k.rest_of f place form rest s.tasks.0, s.tasks.1) }) (k.first_of f place form rest s.tasks.0)
-  list_holds f done ts (jumps c frame w) s = behind f done ts s
-  list_holds f (next place form rest) ts (jumps c frame w) s = behind f (next place form rest) ts s
-  list_holds f done ts (leaves a kept w) s = behind f done ts s
-  list_holds f (next place form rest) ts (leaves a kept w) s = behind f (next place form rest) ts s
-  list_holds f done ts (ends o w) s = behind f done ts s
-  list_holds f (next place form rest) ts (ends o w) s = behind f (next place form rest) ts s
+  list_holds f done ts (jumps c frame w) s = following f done ts s
+  list_holds f (next place form rest) ts (jumps c frame w) s = following f (next place form rest) ts s
+  list_holds f done ts (leaves a kept w) s = following f done ts s
+  list_holds f (next place form rest) ts (leaves a kept w) s = following f (next place form rest) ts s
+  list_holds f done ts (ends o w) s = following f done ts s
+  list_holds f (next place form rest) ts (ends o w) s = following f (next place form rest) ts s
 
   again_holds : (f : Func) (e : Expr) (b : Block) (ts : List Task) (a : Step) → In f ts → F f (loop e b) → Holds (turn_moves r f e b ts a)
   again_holds f e b ts (goes frame w) s h = turn_holds f e b ts frame w s h

@@ -68,7 +68,7 @@ module _ (r : Setup) (w0 : World) where
   finishes_to f (back k ∷ ts) a h =
       finishes_to k.func ts (back_in k.func k.target k.keys f k.frame a) (back_to Adds adds_kept w0 k.func k.target k.keys f k.frame a h)
 
--- what a run writes from a configuration on comes behind what it wrote
+-- what a run writes from a configuration on comes after what it wrote
 pub ending_adds : (r : Setup) (c : Conf) → Adds (world_after c.step) (world_after (ending r c))
 ending_adds r c = (finishes_to r (world_after c.step) c.func c.tasks c.step (record { kept = adds_kept.same (world_after c.step) })).kept
 

@@ -44,15 +44,15 @@ stays_here b r f us (jumps c frame w) q = record { shown = q; wrote = silent w w
 stays_here b r f us (leaves x kept w) q = record { shown = q; wrote = silent w w b refl }
 stays_here b r f us (ends o w) q = absurd (not_ended q.items r f r.at o w q.step)
 
--- what is behind a task of the running function
-abbrev pub behind_list : (r : Run) (left : List Task) (ss : Bor (List Stmt)) (f : Func) (u : m.Task) (us : List m.Task) (a : Step) → ShowsWith (Listed ss ∷ left) r (at f (u ∷ us) a) → ShowsWith left r (at f us a)
-behind_list r left ss f u us a q = record { items = q.items; holds = q.holds; func = q.func; shown = q.shown.1; step = q.step }
+-- what is after a task of the running function
+abbrev pub after_list : (r : Run) (left : List Task) (ss : Bor (List Stmt)) (f : Func) (u : m.Task) (us : List m.Task) (a : Step) → ShowsWith (Listed ss ∷ left) r (at f (u ∷ us) a) → ShowsWith left r (at f us a)
+after_list r left ss f u us a q = record { items = q.items; holds = q.holds; func = q.func; shown = q.shown.1; step = q.step }
 
-abbrev pub behind_closing : (r : Run) (left : List Task) (f : Func) (u : m.Task) (us : List m.Task) (a : Step) → ShowsWith (Closing ∷ left) r (at f (u ∷ us) a) → ShowsWith left r (at f us a)
-behind_closing r left f u us a q = record { items = q.items; holds = q.holds; func = q.func; shown = q.shown.1; step = q.step }
+abbrev pub after_closing : (r : Run) (left : List Task) (f : Func) (u : m.Task) (us : List m.Task) (a : Step) → ShowsWith (Closing ∷ left) r (at f (u ∷ us) a) → ShowsWith left r (at f us a)
+after_closing r left f u us a q = record { items = q.items; holds = q.holds; func = q.func; shown = q.shown.1; step = q.step }
 
-abbrev pub behind_turn : (r : Run) (left : List Task) (e : Bor CodeExpr) (b : Bor CodeBlock) (f : Func) (u : m.Task) (us : List m.Task) (a : Step) → ShowsWith (Turn e b ∷ left) r (at f (u ∷ us) a) → ShowsWith left r (at f us a)
-behind_turn r left e b f u us a q = record { items = q.items; holds = q.holds; func = q.func; shown = q.shown.1; step = q.step }
+abbrev pub after_turn : (r : Run) (left : List Task) (e : Bor CodeExpr) (b : Bor CodeBlock) (f : Func) (u : m.Task) (us : List m.Task) (a : Step) → ShowsWith (Turn e b ∷ left) r (at f (u ∷ us) a) → ShowsWith left r (at f us a)
+after_turn r left e b f u us a q = record { items = q.items; holds = q.holds; func = q.func; shown = q.shown.1; step = q.step }
 
 -- ---- the end of a block
 
@@ -75,7 +75,7 @@ pub closing_goes : (rules : Rules) (r : Run) (b : Outside) → CanDoTask Closing
 closing_goes rules r b can = record {
   keeps = keeps_all r can.room.heap;
   comes = by_closing r (tasks_left r) (λ c. IsFine (setup_in rules r) c → CameTo (world_in c.step) b b None r (after_move (setup_in rules r) c) (after_move (setup_in rules r) c).step)
-      (λ f bound us a q fine. left_came b r f bound us a (behind_closing r (tasks_left r) f (m.closing bound) us a q));
+      (λ f bound us a q fine. left_came b r f bound us a (after_closing r (tasks_left r) f (m.closing bound) us a q));
 }
 
 -- ---- what a statement finds
@@ -137,7 +137,7 @@ pub list_ends : (rules : Rules) (r : Run) (ss : Bor (List Stmt)) (b : Outside) �
 list_ends rules r ss b none can = record {
   keeps = keeps_all r can.room.heap;
   comes = by_list r (tasks_left r) ss (λ c. IsFine (setup_in rules r) c → CameTo (world_in c.step) b b None r (after_move (setup_in rules r) c) (after_move (setup_in rules r) c).step)
-      (λ f ts us a e q fine. subst (λ xs. Came (world_in a) b b None r (list_moves (setup_in rules r) f xs us a)) (ap stmts_of (sym none) ∙ e) (list_over (setup_in rules r) b r f us a (behind_list r (tasks_left r) ss f (m.list ts) us a q)));
+      (λ f ts us a e q fine. subst (λ xs. Came (world_in a) b b None r (list_moves (setup_in rules r) f xs us a)) (ap stmts_of (sym none) ∙ e) (list_over (setup_in rules r) b r f us a (after_list r (tasks_left r) ss f (m.list ts) us a q)));
 }
 
 -- a jump and a leave pass all statements
@@ -154,7 +154,7 @@ list_jumps rules r ss b k is can = record {
   keeps = keeps_all r can.room.heap;
   comes = by_list r (tasks_left r) ss (λ c. IsFine (setup_in rules r) c → CameTo (world_in c.step) b b None r (after_move (setup_in rules r) c) (after_move (setup_in rules r) c).step)
       (λ f ts us a e q. by_jumps q.items r f (λ x. ShowsConf r (at f us x) → IsFine (setup_in rules r) (at f (m.list ts ∷ us) x) → Came (world_in x) b b None r (list_moves (setup_in rules r) f ts us x)) r.at k is
-      (λ c frame w h here fine. subst (λ y. Came w b b None r y) (sym (jump_passes (setup_in rules r) f ts us c frame w)) (stays_here b r f us (jumps c frame w) here)) a q.step (behind_list r (tasks_left r) ss f (m.list ts) us a q));
+      (λ c frame w h here fine. subst (λ y. Came w b b None r y) (sym (jump_passes (setup_in rules r) f ts us c frame w)) (stays_here b r f us (jumps c frame w) here)) a q.step (after_list r (tasks_left r) ss f (m.list ts) us a q));
 }
 
 pub list_leaves : (rules : Rules) (r : Run) (ss : Bor (List Stmt)) (b : Outside) → r.at ≡ Leaves → CanDoTask (Listed ss) rules r → GoesTask (Listed ss) rules r r b b None
@@ -162,5 +162,5 @@ list_leaves rules r ss b is can = record {
   keeps = keeps_all r can.room.heap;
   comes = by_list r (tasks_left r) ss (λ c. IsFine (setup_in rules r) c → CameTo (world_in c.step) b b None r (after_move (setup_in rules r) c) (after_move (setup_in rules r) c).step)
       (λ f ts us a e q. by_leaves q.items r f (λ x. ShowsConf r (at f us x) → IsFine (setup_in rules r) (at f (m.list ts ∷ us) x) → Came (world_in x) b b None r (list_moves (setup_in rules r) f ts us x)) r.at is
-      (λ x kept w h here fine. subst (λ y. Came w b b None r y) (sym (leave_passes (setup_in rules r) f ts us x kept w)) (stays_here b r f us (leaves x kept w) here)) a q.step (behind_list r (tasks_left r) ss f (m.list ts) us a q));
+      (λ x kept w h here fine. subst (λ y. Came w b b None r y) (sym (leave_passes (setup_in rules r) f ts us x kept w)) (stays_here b r f us (leaves x kept w) here)) a q.step (after_list r (tasks_left r) ss f (m.list ts) us a q));
 }

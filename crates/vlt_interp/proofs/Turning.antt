@@ -35,7 +35,7 @@ use Rattle.vlt_interp.proofs.OfTasks.Pushing.{put_shown}
 use Rattle.vlt_interp.proofs.OfTasks.Coming.{Came}
 use Rattle.vlt_interp.specs.Going.{setup_in, IsFine, CanDoTask, GoesTask, CanAct}
 use Rattle.vlt_interp.proofs.Fronts.{by_list, by_turn, by_back, by_goes, by_jumps, by_leaves}
-use Rattle.vlt_interp.proofs.Tasking.{stays_here, behind_list, behind_turn, IsFit, goes_fit, jumps_fit}
+use Rattle.vlt_interp.proofs.Tasking.{stays_here, after_list, after_turn, IsFit, goes_fit, jumps_fit}
 
 -- ---- a statement of a list
 
@@ -60,9 +60,9 @@ module _ (rules : Rules) (old mid : Run) (ss rest : Bor (List Stmt)) (x : Stmt) 
       (λ q. by_goes q.items old f (λ y. ShowsWith (Listed ss ∷ tasks_left old) old (at f (m.list (next x.at (form_of x.form) (stmts_of rest.now)) ∷ us) y) → P (at f (m.list (next x.at (form_of x.form) (stmts_of rest.now)) ∷ us) y)) old.at on
       (λ frame w runs q. h f us frame w q) a q.step q) q)
 
-  -- behind the statement the rest is shown
+  -- after the statement the rest is shown
   put_front : (f : Func) (us : List m.Task) (frame : Frame) (w : World) → ShowsWith (Listed ss ∷ tasks_left old) old (at f (m.list (next x.at (form_of x.form) (stmts_of rest.now)) ∷ us) (goes frame w)) → ShowsConf put (at f (m.list (stmts_of rest.now) ∷ us) (goes frame w))
-  put_front f us frame w q = put_shown old put refl (Listed rest) f us (m.list (stmts_of rest.now) ∷ us) (goes frame w) items (behind_list old (tasks_left old) ss f _ us (goes frame w) q) (refl, q.shown.1)
+  put_front f us frame w q = put_shown old put refl (Listed rest) f us (m.list (stmts_of rest.now) ∷ us) (goes frame w) items (after_list old (tasks_left old) ss f _ us (goes frame w) q) (refl, q.shown.1)
 
   known : (f : Func) (us : List m.Task) (frame : Frame) (w : World) → IsFine (setup_in rules old) (at f (m.list (next x.at (form_of x.form) (stmts_of rest.now)) ∷ us) (goes frame w)) → IsKnownCall (program_of rules.program.now) f (form_of x.form) frame w
   known f us frame w fine = fine.knows (form_of x.form) frame w (record { place = x.at; rest = stmts_of rest.now; tasks = us; are = refl; step = refl })
@@ -165,7 +165,7 @@ module _ (rules : Rules) (r : Run) (e : Bor CodeExpr) (b : Bor CodeBlock) (can :
     keeps = (does (setup_in rules r)).keeps;
     comes = by_turn r (tasks_left r) e b (λ c. IsFine (setup_in rules r) c → CameTo (world_in c.step) x x result new (after_move (setup_in rules r) c) (after_move (setup_in rules r) c).step) (λ f d body us a t q.
         by_goes q.items r f (λ y. ShowsWith (Turn e b ∷ tasks_left r) r (at f (m.turn d body ∷ us) y) → IsFine (setup_in rules r) (at f (m.turn d body ∷ us) y) → Came (world_in y) x x result new (turn_moves (setup_in rules r) f d body us y)) r.at is
-        (λ frame w old q fine. subst (Came w x x result new) (sym (turned_is (setup_in rules r) f d body us frame w t)) ((does (setup_in rules r)).comes f us frame w (behind_turn r (tasks_left r) e b f _ us (goes frame w) q))) a q.step q);
+        (λ frame w old q fine. subst (Came w x x result new) (sym (turned_is (setup_in rules r) f d body us frame w t)) ((does (setup_in rules r)).comes f us frame w (after_turn r (tasks_left r) e b f _ us (goes frame w) q))) a q.step q);
   }
 
   -- ---- from a jump
@@ -208,7 +208,7 @@ module _ (rules : Rules) (r : Run) (e : Bor CodeExpr) (b : Bor CodeBlock) (can :
     keeps = keeps_all r can.room.heap;
     comes = by_turn r (tasks_left r) e b (λ c. IsFine (setup_in rules r) c → CameTo (world_in c.step) x x None r (after_move (setup_in rules r) c) (after_move (setup_in rules r) c).step) (λ f d body us a t q.
         by_leaves q.items r f (λ y. ShowsWith (Turn e b ∷ tasks_left r) r (at f (m.turn d body ∷ us) y) → IsFine (setup_in rules r) (at f (m.turn d body ∷ us) y) → Came (world_in y) x x None r (turn_moves (setup_in rules r) f d body us y)) r.at is
-        (λ z kept w old q fine. stays_here x r f us (leaves z kept w) (behind_turn r (tasks_left r) e b f _ us (leaves z kept w) q)) a q.step q);
+        (λ z kept w old q fine. stays_here x r f us (leaves z kept w) (after_turn r (tasks_left r) e b f _ us (leaves z kept w) q)) a q.step q);
   }
 
 -- ---- returns

@@ -20,7 +20,7 @@ use vlt_core::{Func, Operand};
 use vlt_io::Sink;
 use vlt_steps::Stop;
 
-/// A function is called, the values of whose arguments stand behind the frame.
+/// A function is called, the values of whose arguments stand after the frame.
 fn go_in<'a, K: Sink>(
     rules: &Rules<'a>,
     callee: &'a Func,

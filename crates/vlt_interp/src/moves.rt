@@ -3,7 +3,7 @@
 ghost use Rattle.std.specs.Prelude.{◌∷◌};
 ghost use Rattle.vlt_core.specs.View.{form_of};
 ghost use Rattle.vlt_steps.specs.Writing.{Outside};
-ghost use Rattle.vlt_interp.specs.declared.tasks.task.Task.TheVariants.{List as ListTask, Closing as ClosingTask, Turn as TurnTask, Back as BackTask};
+ghost use Rattle.vlt_interp.specs.declared.tasks.task.Task.TheVariants.{List as ListTask, Turn as TurnTask, Back as BackTask};
 ghost use Rattle.vlt_interp.specs.Tasks.Shown.{tasks_left};
 ghost use Rattle.vlt_interp.specs.Calls.Called.{Acts};
 ghost use Rattle.vlt_interp.specs.Going.{CanMove, CanDoTask, GoesTask, Moves, CanAct};
@@ -17,7 +17,7 @@ use vlt_core::{Block, Expr, Form, Stmt};
 use vlt_io::Sink;
 use vlt_steps::{Stop, put};
 
-/// A statement, with what is left to do behind it.
+/// A statement, with what is left to do after it.
 fn act<'a, K: Sink>(
     rules: &Rules<'a>,
     form: &'a Form,

@@ -1,4 +1,4 @@
-//! Statements of a core program that are no calls and no returns; a run under way in, the run behind the statement or its stop out.
+//! Statements of a core program that are no calls and no returns; a run under way in, the run after the statement or its stop out.
 //! Read `vlt_meaning_laws/specs/Machine/Machine.antt` (act) first, then `specs/Tasks/Moves.antt`: what a statement asks and comes to.
 //! Used by: the machine.
 

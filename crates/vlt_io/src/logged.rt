@@ -1,6 +1,6 @@
 //! A store that keeps what another one gave.
 
-ghost use Rattle.std.specs.Prelude.{◌≡◌, ◌++◌, ◌∷◌, [], IfOk};
+ghost use Rattle.std.specs.Prelude.{◌≡◌, ◌++◌, ◌∷◌, []};
 
 use crate::{Store, StoreError};
 use std::alloc::Global;

@@ -2,7 +2,7 @@
 
 ghost use Rattle.std.specs.Prelude.{◌≡◌, ◌<◌, ◌≤◌, ◌+◌, ◌^◌, ℕ, List, true, false, if◌then◌else◌, take, MatchResult, Some, IfOk, OnOk, OnErr, IsErrOf, vec_len};
 ghost use Rattle.std.specs.Str.{bytes_eq};
-ghost use Rattle.vlt_io.specs.Outside.{Files, IsRead, MayFail};
+ghost use Rattle.vlt_io.specs.Outside.{IsRead, MayFail};
 
 use crate::calls::Calls;
 use crate::{Store, StoreError};

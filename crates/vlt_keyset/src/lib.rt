@@ -6,7 +6,7 @@
 ghost use Rattle.std.specs.Prelude.{◌≡◌, ◌↔◌, ◌<◌, ◌≤◌, ◌^◌, length, IsTrue, IfOk, OnOk, IfErr, OnErr, IfSome, IfNone, MatchBool};
 ghost use Rattle.vlt_core.specs.View.{tok_of};
 ghost use Rattle.vlt_core.specs.HeldView.{status_of, wanted_of, row_of};
-ghost use Rattle.vlt_core.specs.Maps.{IsWanted, IsBelow, kind_of, row_passed, absent};
+ghost use Rattle.vlt_core.specs.Maps.{IsWanted, IsBelow, row_passed, absent};
 ghost use Rattle.vlt_keyset.specs.Pairs.{map_of_pairs, AreInOrder, AreAmong, HasOnly};
 ghost use Rattle.vlt_keyset.specs.Held.{map_of, HasPlace, IsSameRange, gap, IsJoin, IsTokenFault, IsJoinFault, IsApart};
 ghost use Rattle.vlt_keyset.specs.Tables.{IsAlikeMap, IsAllAbsent, put_in};

@@ -34,8 +34,8 @@ variable_refused known keys ps again (s.bound k v b) =
 variable_refused known keys ps again _ = []
 
 -- whether a bound entry stands before the next one
-abbrev pub behind_bound : Bool → Entry → Bool
-behind_bound again e = again || is_bound e
+abbrev pub after_bound : Bool → Entry → Bool
+after_bound again e = again || is_bound e
 
 abbrev pub variables_refused : Globals → Keys → List Parameter → List Entry → List Refusal
-variables_refused known keys ps = along behind_bound (variable_refused known keys ps) false
+variables_refused known keys ps = along after_bound (variable_refused known keys ps) false

@@ -14,7 +14,7 @@ use Rattle.vlt_kinds_types.specs.declared.shapes.Wanted.TheVariants as wanted
 use Rattle.vlt_kinds_types.specs.Files.{File, shape_at}
 use Rattle.vlt_kinds_types.specs.Types.{KeyUse, ty_refused, owned_states_refused}
 use Rattle.vlt_kinds_heads.specs.Places.{result_uses, parameter_uses, clause_in, entry_key, is_fresh, first_states, second_states, HeadName, head_names}
-use Rattle.vlt_kinds_heads.specs.Keys.{Keys, facts_of, behind_entry, behind_parameters, behind_result, behind_use, fresh_typed, places_behind, keys_behind}
+use Rattle.vlt_kinds_heads.specs.Keys.{Keys, facts_of, following_entry, after_parameters, following_result, after_use, fresh_typed, places_after, keys_after}
 use Rattle.vlt_kinds_heads.specs.Bounds.{variables_refused}
 use Rattle.vlt_kinds_types.specs.Names.Along.{along}
 use Rattle.vlt_kinds_heads.specs.declared.facts.Facts.{Facts}
@@ -56,9 +56,9 @@ unfoldable pub again_refused : Keys → Entry → List Refusal
 again_refused keys e =
     refuse_if (facts_of keys (entry_key e).text).in_clause rule.CLAUSE_KEY_AGAIN (entry_key e).at.from
 
--- the entries one after another, behind the keys of result and parameters
+-- the entries one after another, after the keys of result and parameters
 abbrev pub entries_again : Keys → List Entry → List Refusal
-entries_again = along behind_entry again_refused
+entries_again = along following_entry again_refused
 
 -- ---- 18, 20: a place that wants an object of a type
 
@@ -75,7 +75,7 @@ unfoldable pub clash : Keys → KeyUse → List Refusal
 clash keys u = clash_with (facts_of keys u.key).typing u.wanted u.tracked u.at
 
 abbrev pub clashes : Keys → List KeyUse → List Refusal
-clashes = along behind_use clash
+clashes = along after_use clash
 
 -- In the result, against all places that give a type. A key of the parameters, or a `new` key, that has none can't be given
 -- one here. Where a `tracked(K)` of the result disagrees, the second of both places is the one of the parameters.
@@ -167,7 +167,7 @@ unfoldable pub types_refused : File → Head → List Refusal
 types_refused file h = result_type_refused file h.result_type ++ of_each (parameter_refused file) h.parameters
 
 unfoldable pub clause_again : (results parameters : List KeyUse) → List Entry → List Refusal
-clause_again rs ps es = entries_again (behind_parameters (behind_result [] rs) ps) es
+clause_again rs ps es = entries_again (after_parameters (following_result [] rs) ps) es
 
 unfoldable pub typings_refused : (places : Keys) → (results parameters : List KeyUse) → List Refusal
 typings_refused places rs ps = clashes (fresh_typed places rs) ps
@@ -181,10 +181,10 @@ head_refused_by file h rs ps =
     types_refused file h
     ++ (names_refused file.globals (head_names file h)
     ++ (clause_again rs ps (clause_in h.clause)
-    ++ (typings_refused (places_behind rs ps (clause_in h.clause)) rs ps
-    ++ (result_refused (keys_behind rs ps (clause_in h.clause)) rs
-    ++ (of_each (entry_refused file (keys_behind rs ps (clause_in h.clause))) (clause_in h.clause)
-    ++ (variables_refused file.globals (keys_behind rs ps (clause_in h.clause)) h.parameters (clause_in h.clause)
+    ++ (typings_refused (places_after rs ps (clause_in h.clause)) rs ps
+    ++ (result_refused (keys_after rs ps (clause_in h.clause)) rs
+    ++ (of_each (entry_refused file (keys_after rs ps (clause_in h.clause))) (clause_in h.clause)
+    ++ (variables_refused file.globals (keys_after rs ps (clause_in h.clause)) h.parameters (clause_in h.clause)
     ++ main_refused h))))))
 
 -- what the rules on heads refuse in one, the rule on externals aside

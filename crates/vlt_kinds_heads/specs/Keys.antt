@@ -69,24 +69,24 @@ with_entry e f = record f {
 abbrev pub note : Keys → List ℕ → (Facts → Facts) → Keys
 note keys k change = with_facts keys k (change (facts_of keys k))
 
-abbrev pub behind_result : Keys → List KeyUse → Keys
-behind_result keys [] = keys
-behind_result keys (u ∷ us) = behind_result (note keys u.key (with_result u)) us
+abbrev pub following_result : Keys → List KeyUse → Keys
+following_result keys [] = keys
+following_result keys (u ∷ us) = following_result (note keys u.key (with_result u)) us
 
-abbrev pub behind_parameters : Keys → List KeyUse → Keys
-behind_parameters keys [] = keys
-behind_parameters keys (u ∷ us) = behind_parameters (note keys u.key (with_parameter u)) us
+abbrev pub after_parameters : Keys → List KeyUse → Keys
+after_parameters keys [] = keys
+after_parameters keys (u ∷ us) = after_parameters (note keys u.key (with_parameter u)) us
 
-abbrev pub behind_entry : Keys → Entry → Keys
-behind_entry keys e = note keys (entry_key e).text (with_entry e)
+abbrev pub following_entry : Keys → Entry → Keys
+following_entry keys e = note keys (entry_key e).text (with_entry e)
 
-abbrev pub behind_clause : Keys → List Entry → Keys
-behind_clause keys [] = keys
-behind_clause keys (e ∷ es) = behind_clause (behind_entry keys e) es
+abbrev pub following_clause : Keys → List Entry → Keys
+following_clause keys [] = keys
+following_clause keys (e ∷ es) = following_clause (following_entry keys e) es
 
 -- where each key stands, of a head with these keys in its result and its parameters and with this clause
-unfoldable pub places_behind : (results parameters : List KeyUse) → List Entry → Keys
-places_behind rs ps es = behind_clause (behind_parameters (behind_result [] rs) ps) es
+unfoldable pub places_after : (results parameters : List KeyUse) → List Entry → Keys
+places_after rs ps es = following_clause (after_parameters (following_result [] rs) ps) es
 
 -- ---- the types of keys
 
@@ -99,36 +99,36 @@ abbrev pub with_typing : (type at : ℕ) → Facts → Facts
 with_typing t at f = record f { typing = typed_first f.typing t at }
 
 -- a place that says of which type its key's object is
-abbrev pub behind_typing : Keys → Wanted → List ℕ → ℕ → Keys
-behind_typing keys (wanted.OfType t) k at = note keys k (with_typing t at)
-behind_typing keys _ k at = keys
+abbrev pub after_typing : Keys → Wanted → List ℕ → ℕ → Keys
+after_typing keys (wanted.OfType t) k at = note keys k (with_typing t at)
+after_typing keys _ k at = keys
 
-abbrev pub behind_use : Keys → KeyUse → Keys
-behind_use keys u = behind_typing keys u.wanted u.key u.at
+abbrev pub after_use : Keys → KeyUse → Keys
+after_use keys u = after_typing keys u.wanted u.key u.at
 
 -- In the result only the `tracked(K)` of a `new` key gives one.
 abbrev pub gives_type : Keys → KeyUse → Bool
 gives_type keys u = if u.tracked then (facts_of keys u.key).is_fresh else false
 
-abbrev pub behind_fresh : Keys → KeyUse → Keys
-behind_fresh keys u = if gives_type keys u then behind_use keys u else keys
+abbrev pub after_fresh : Keys → KeyUse → Keys
+after_fresh keys u = if gives_type keys u then after_use keys u else keys
 
 abbrev pub fresh_typed : Keys → List KeyUse → Keys
 fresh_typed keys [] = keys
-fresh_typed keys (u ∷ us) = fresh_typed (behind_fresh keys u) us
+fresh_typed keys (u ∷ us) = fresh_typed (after_fresh keys u) us
 
 -- the places of the parameters, one after another
 abbrev pub parameters_typed : Keys → List KeyUse → Keys
 parameters_typed keys [] = keys
-parameters_typed keys (u ∷ us) = parameters_typed (behind_use keys u) us
+parameters_typed keys (u ∷ us) = parameters_typed (after_use keys u) us
 
 -- the keys with their types
 unfoldable pub typed_keys : (places : Keys) → (results parameters : List KeyUse) → Keys
 typed_keys places rs ps = parameters_typed (fresh_typed places rs) ps
 
-unfoldable pub keys_behind : (results parameters : List KeyUse) → List Entry → Keys
-keys_behind rs ps es = typed_keys (places_behind rs ps es) rs ps
+unfoldable pub keys_after : (results parameters : List KeyUse) → List Entry → Keys
+keys_after rs ps es = typed_keys (places_after rs ps es) rs ps
 
 -- the keys of a head: where each stands, and the type of its object
 abbrev pub keys_of : File → Head → Keys
-keys_of file h = keys_behind (result_uses file h.result_type) (parameter_uses file h.parameters) (clause_in h.clause)
+keys_of file h = keys_after (result_uses file h.result_type) (parameter_uses file h.parameters) (clause_in h.clause)

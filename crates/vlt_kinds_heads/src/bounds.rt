@@ -75,7 +75,7 @@ pub fn check_variables(
     clause: &[Entry],
     found: &mut LeastRefusal,
 )
-    ensures { found.new.least ≡ found_along b.behind_bound
+    ensures { found.new.least ≡ found_along b.after_bound
         (b.variable_refused (names_seen known.now) (keys_seen keys.now)
         (map view.parameter_of parameters.now)) false (map view.entry_of clause.now)
         found.old.least }

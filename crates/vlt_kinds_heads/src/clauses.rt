@@ -1,6 +1,6 @@
 //! The rules on clauses.
 
-ghost use Rattle.std.specs.Prelude.{◌≡◌, ◌&&◌, not, Some, map, option_map, codes, OnOk};
+ghost use Rattle.std.specs.Prelude.{◌≡◌, ◌&&◌, Some, map, option_map, OnOk};
 ghost use Rattle.vlt_syntax.specs.Tree as s;
 ghost use Rattle.vlt_syntax.specs.View as view;
 ghost use Rattle.vlt_kinds_types.specs.Names.Refusals.{least_from, found_each};

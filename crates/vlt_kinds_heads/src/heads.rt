@@ -3,7 +3,7 @@
 ghost use Rattle.std.specs.Prelude.{◌≡◌, ◌≤◌, ◌++◌, ◌∷◌, [], length, map, IfOk, OnOk};
 ghost use Rattle.vlt_syntax.specs.View as view;
 ghost use Rattle.vlt_syntax.specs.Lists.{Each};
-ghost use Rattle.vlt_syntax.specs.Grammar.{IsDecl, IsHead, language};
+ghost use Rattle.vlt_syntax.specs.Grammar.{IsDecl, language};
 ghost use Rattle.vlt_core.specs.View as core_view;
 ghost use Rattle.vlt_kinds_types.specs.Names.Refusals.{least_from, found_each};
 ghost use Rattle.vlt_kinds_types.specs.Seen.{file_seen, use_seen};
@@ -96,7 +96,7 @@ impl<'a> HeadKeys<'a> {
     }
 
     /// Where the keys of a head stand; those of other heads are forgotten. A key that its clause names another time is refused.
-    #[tactic(auto, using(vlt_kinds_types::proofs::OfNames::Along::along_is), unfolding(crate::specs::Heads::clause_again, crate::specs::Keys::places_behind))]
+    #[tactic(auto, using(vlt_kinds_types::proofs::OfNames::Along::along_is), unfolding(crate::specs::Heads::clause_again, crate::specs::Keys::places_after))]
     fn note_places(
         &mut self,
         results: &[KeyUse<'a>],
@@ -105,7 +105,7 @@ impl<'a> HeadKeys<'a> {
         found: &mut LeastRefusal,
     ) -> Result<(), AllocError>
         ensures keys { OnOk result (keys_seen self.new
-            ≡ k.places_behind (map use_seen results.now) (map use_seen parameters.now)
+            ≡ k.places_after (map use_seen results.now) (map use_seen parameters.now)
             (map view.entry_of clause.now)) }
         ensures refused { OnOk result (found.new.least ≡ least_from found.old.least
             (h.clause_again (map use_seen results.now) (map use_seen parameters.now)
@@ -161,7 +161,7 @@ struct HeadTables<'a> {
 }
 
 /// Notes the keys of a head. What is wrong in it is refused.
-#[tactic(auto, using(vlt_kinds_types::proofs::OfNames::Least::least_of_both, vlt_kinds_types::proofs::OfNames::Least::each_is, vlt_kinds_types::proofs::OfNames::Along::along_is), unfolding(crate::specs::Heads::head_refused_by, crate::specs::Keys::keys_behind))]
+#[tactic(auto, using(vlt_kinds_types::proofs::OfNames::Least::least_of_both, vlt_kinds_types::proofs::OfNames::Least::each_is, vlt_kinds_types::proofs::OfNames::Along::along_is), unfolding(crate::specs::Heads::head_refused_by, crate::specs::Keys::keys_after))]
 fn check_head_by<'a>(
     alloc: Global,
     file: &File<'_>,
@@ -172,7 +172,7 @@ fn check_head_by<'a>(
     found: &mut LeastRefusal,
 ) -> Result<(), AllocError>
     ensures keys { OnOk result (keys_seen tables.new.keys
-        ≡ k.keys_behind (map use_seen results.now) (map use_seen parameters.now)
+        ≡ k.keys_after (map use_seen results.now) (map use_seen parameters.now)
         (p.clause_in (view.head_of head.now).clause)) }
     ensures refused { OnOk result (found.new.least ≡ least_from found.old.least (h.head_refused_by
         (file_seen file.now) (view.head_of head.now) (map use_seen results.now)

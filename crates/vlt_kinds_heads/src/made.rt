@@ -1,7 +1,6 @@
 //! What heads become.
 
 ghost use Rattle.std.specs.Prelude.{◌≡◌, ◌≤◌, [], None, map, option_map, length, IfOk};
-ghost use Rattle.vlt_base.specs.States.{has_state};
 ghost use Rattle.vlt_syntax.specs.View as view;
 ghost use Rattle.vlt_core.specs.View as core_view;
 ghost use Rattle.vlt_core.specs.Core as core;

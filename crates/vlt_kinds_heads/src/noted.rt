@@ -4,7 +4,7 @@ ghost use Rattle.std.specs.Prelude.{◌≡◌, Some, map, IfOk, OnOk};
 ghost use Rattle.std.specs.Map.{lookup};
 ghost use Rattle.std.specs.Str.{bytes_eq};
 ghost use Rattle.vlt_syntax.specs.View as view;
-ghost use Rattle.vlt_kinds_types.specs.Seen.{file_seen, use_seen};
+ghost use Rattle.vlt_kinds_types.specs.Seen.{use_seen};
 ghost use Rattle.vlt_kinds_heads.specs.Places as p;
 ghost use Rattle.vlt_kinds_heads.specs.Keys as k;
 ghost use Rattle.vlt_kinds_heads.specs.Seen.{keys_seen};
@@ -98,7 +98,7 @@ impl<'a> HeadKeys<'a> {
     /// Notes that a clause has a key.
     pub fn note_entry(&mut self, entry: &'a Entry) -> Result<(), AllocError>
         ensures { OnOk result (keys_seen self.new
-            ≡ k.behind_entry (keys_seen self.old) (view.entry_of entry.now)) }
+            ≡ k.following_entry (keys_seen self.old) (view.entry_of entry.now)) }
     {
         let key = entry_key(entry).text.as_slice();
         let facts = self.facts_of(key)?;
@@ -114,7 +114,7 @@ impl<'a> HeadKeys<'a> {
     /// Notes the type that a place gives to its key, if it gives one.
     pub fn note_typing(&mut self, place: &KeyUse<'a>) -> Result<(), AllocError>
         ensures { OnOk result (keys_seen self.new
-            ≡ k.behind_use (keys_seen self.old) (use_seen place.now)) }
+            ≡ k.after_use (keys_seen self.old) (use_seen place.now)) }
     {
         let Wanted::OfType(type_id) = place.wanted else {
             return Ok(());
@@ -133,7 +133,7 @@ impl<'a> HeadKeys<'a> {
     /// Notes the keys of the result.
     pub fn note_results(&mut self, uses: &[KeyUse<'a>]) -> Result<(), AllocError>
         ensures { OnOk result (keys_seen self.new
-            ≡ k.behind_result (keys_seen self.old) (map use_seen uses.now)) }
+            ≡ k.following_result (keys_seen self.old) (map use_seen uses.now)) }
     {
         for place in uses {
             self.note_result(place)?;
@@ -144,7 +144,7 @@ impl<'a> HeadKeys<'a> {
     /// Notes the keys of the parameters.
     pub fn note_parameters(&mut self, uses: &[KeyUse<'a>]) -> Result<(), AllocError>
         ensures { OnOk result (keys_seen self.new
-            ≡ k.behind_parameters (keys_seen self.old) (map use_seen uses.now)) }
+            ≡ k.after_parameters (keys_seen self.old) (map use_seen uses.now)) }
     {
         for place in uses {
             self.note_parameter(place)?;
@@ -154,7 +154,7 @@ impl<'a> HeadKeys<'a> {
 
     fn note_fresh(&mut self, place: &KeyUse<'a>) -> Result<(), AllocError>
         ensures { OnOk result (keys_seen self.new
-            ≡ k.behind_fresh (keys_seen self.old) (use_seen place.now)) }
+            ≡ k.after_fresh (keys_seen self.old) (use_seen place.now)) }
     {
         let facts = self.facts_of(place.key)?;
         if place.tracked && facts.is_fresh {

@@ -1,6 +1,6 @@
 //! The rules on the types of a head's keys.
 
-ghost use Rattle.std.specs.Prelude.{◌≡◌, map, option_map, IfOk, OnOk};
+ghost use Rattle.std.specs.Prelude.{◌≡◌, map, OnOk};
 ghost use Rattle.vlt_syntax.specs.View as view;
 ghost use Rattle.vlt_kinds_types.specs.Names.Refusals.{least_from, found_each};
 ghost use Rattle.vlt_kinds_types.specs.Seen.{use_seen};
@@ -96,7 +96,7 @@ impl<'a> HeadKeys<'a> {
         ensures keys { OnOk result (keys_seen self.new
             ≡ k.parameters_typed (keys_seen self.old) (map use_seen uses.now)) }
         ensures refused { OnOk result (found.new.least
-            ≡ found_along k.behind_use h.clash (keys_seen self.old)
+            ≡ found_along k.after_use h.clash (keys_seen self.old)
             (map use_seen uses.now) found.old.least) }
     {
         for place in uses {
@@ -186,9 +186,9 @@ impl<'a> HeadKeys<'a> {
     ) -> Result<(), AllocError>
         ensures keys { OnOk result
             (keys_seen self.new
-            ≡ k.behind_clause (keys_seen self.old) (map view.entry_of clause.now)) }
+            ≡ k.following_clause (keys_seen self.old) (map view.entry_of clause.now)) }
         ensures refused { OnOk result (found.new.least
-            ≡ found_along k.behind_entry h.again_refused (keys_seen self.old)
+            ≡ found_along k.following_entry h.again_refused (keys_seen self.old)
             (map view.entry_of clause.now) found.old.least) }
     {
         for entry in clause {

@@ -8,7 +8,7 @@ use Rattle.vlt_syntax.specs.View.{name_of, set_state_of}
 use Rattle.vlt_syntax.specs.declared.tree.SetState.{SetState}
 use Rattle.vlt_core.specs.View.{link_of}
 use Rattle.vlt_core.specs.declared.program.Link.{Link}
-use Rattle.vlt_kinds_types.specs.Files.{with_text, texts_behind, state_texts, number_of, links_to, links_behind}
+use Rattle.vlt_kinds_types.specs.Files.{with_text, texts_after, state_texts, number_of, links_to, links_after}
 use Rattle.vlt_kinds_types.specs.Small.{IsSmall}
 
 -- one state more is one name more, or none
@@ -18,7 +18,7 @@ one_more known t true = (omega arith, omega arith)
 one_more known t false = (omega (arith, length-append known (t ∷ [])), omega (arith, length-append known (t ∷ [])))
 
 some_more : (known : List (List ℕ)) (xs : List s.SetState)
-    → (length known ≤ length (texts_behind known xs)) × (length (texts_behind known xs) ≤ length known + length xs)
+    → (length known ≤ length (texts_after known xs)) × (length (texts_after known xs) ≤ length known + length xs)
 some_more known [] = (omega arith, omega arith)
 some_more known (x ∷ xs) =
     let one : (length known ≤ length (with_text known x.name.text)) × (length (with_text known x.name.text) ≤ length known + 1) =
@@ -34,13 +34,13 @@ few_texts xs n few = let less : length (state_texts xs) ≤ 0 + length xs = (som
 
 -- ---- the code's loops
 
--- behind the last state the names are all of them
-pub small_texts : (texts : List (List ℕ)) (xs : List SetState) (i : ℕ) → length xs ≤ i → texts_behind (map (λ n. n) texts) (map set_state_of (drop i xs)) ≡ state_texts (map set_state_of xs)
+-- after the last state the names are all of them
+pub small_texts : (texts : List (List ℕ)) (xs : List SetState) (i : ℕ) → length xs ≤ i → texts_after (map (λ n. n) texts) (map set_state_of (drop i xs)) ≡ state_texts (map set_state_of xs)
     → 1 ≤ length xs → length xs ≤ 32 → IsSmall texts
 small_texts texts [] i past is some few = absurd (omega (arith, some))
 small_texts texts (x ∷ xs) i past is some few =
     let all = map set_state_of (x ∷ xs) in
-    let ended = at_drop_all (λ ys. texts_behind (map (λ n. n) texts) (map set_state_of ys)) (x ∷ xs) i past in
+    let ended = at_drop_all (λ ys. texts_after (map (λ n. n) texts) (map set_state_of ys)) (x ∷ xs) i past in
     let same : length texts ≡ length (state_texts all) = sym (length-map texts (λ n. n)) ∙ ap length (sym ended ∙ is) in
     let less : length all ≤ 32 = omega (arith, few, length-map (x ∷ xs) set_state_of) in
     record {
@@ -51,12 +51,12 @@ small_texts texts (x ∷ xs) i past is some few =
 -- one state more is the link to it more, or none
 pub links_next : (known : List (List ℕ)) (xs : List SetState) (i : ℕ) (x : SetState) (links after : List Link) (lower upper : ℕ)
     → i < length xs → x ≡ get_or xs i x → upper ≡ number_of known (name_of x.name) → map link_of after ≡ map link_of links ++ links_to lower upper x.above
-    → map link_of after ++ links_behind known upper (map set_state_of (drop (i + 1) xs)) ≡ map link_of links ++ links_behind known lower (map set_state_of (drop i xs))
+    → map link_of after ++ links_after known upper (map set_state_of (drop (i + 1) xs)) ≡ map link_of links ++ links_after known lower (map set_state_of (drop i xs))
 links_next known xs i x links after lower upper within is number pushed =
     let rest = map set_state_of (drop (i + 1) xs) in
-    ap (λ ls. ls ++ links_behind known upper rest) pushed
-    ∙ append_assoc (map link_of links) (links_to lower upper x.above) (links_behind known upper rest)
+    ap (λ ls. ls ++ links_after known upper rest) pushed
+    ∙ append_assoc (map link_of links) (links_to lower upper x.above) (links_after known upper rest)
     ∙ ap (λ ls. map link_of links ++ ls)
-    (ap (λ n. links_to lower n x.above ++ links_behind known n rest) number
-    ∙ ap (λ y. links_to lower (number_of known (set_state_of y).name) (set_state_of y).above ++ links_behind known (number_of known (set_state_of y).name) rest) is
-    ∙ sym (at_drop_more (λ ys. links_behind known lower (map set_state_of ys)) xs i x within))
+    (ap (λ n. links_to lower n x.above ++ links_after known n rest) number
+    ∙ ap (λ y. links_to lower (number_of known (set_state_of y).name) (set_state_of y).above ++ links_after known (number_of known (set_state_of y).name) rest) is
+    ∙ sym (at_drop_more (λ ys. links_after known lower (map set_state_of ys)) xs i x within))

@@ -72,7 +72,7 @@ leaves_payload_open known (s.owning ss n at) = not (is_known_type (type_in known
 leaves_payload_open known _ = false
 
 -- A variant is keyed where a case lists a key, and owning where it is keyed or has a payload that is written `tracked`. An
--- unknown name behind that leaves it open.
+-- unknown name after that leaves it open.
 abbrev pub variant_sort : (keyed owning left_open : Bool) → Sort
 variant_sort true owning left_open = sort.KeyedVariant
 variant_sort false true left_open = sort.OwningVariant
@@ -105,12 +105,12 @@ state_number known n = position (bytes_eq n.text) known
 abbrev pub with_text : List (List ℕ) → List ℕ → List (List ℕ)
 with_text known t = if list_any (bytes_eq t) known then known else known ++ t ∷ []
 
-abbrev pub texts_behind : (known : List (List ℕ)) → List SetState → List (List ℕ)
-texts_behind known [] = known
-texts_behind known (x ∷ xs) = texts_behind (with_text known x.name.text) xs
+abbrev pub texts_after : (known : List (List ℕ)) → List SetState → List (List ℕ)
+texts_after known [] = known
+texts_after known (x ∷ xs) = texts_after (with_text known x.name.text) xs
 
 abbrev pub state_texts : List SetState → List (List ℕ)
-state_texts = texts_behind []
+state_texts = texts_after []
 
 -- the number of a state that is one of these
 abbrev pub number_of : List (List ℕ) → Name → ℕ
@@ -121,14 +121,14 @@ links_to lower upper true = record { lower = lower; upper = upper } ∷ []
 links_to lower upper false = []
 
 -- the links to these states, each from the state before it
-abbrev pub links_behind : (known : List (List ℕ)) → (lower : ℕ) → List SetState → List Link
-links_behind known lower [] = []
-links_behind known lower (x ∷ xs) =
-    links_to lower (number_of known x.name) x.above ++ links_behind known (number_of known x.name) xs
+abbrev pub links_after : (known : List (List ℕ)) → (lower : ℕ) → List SetState → List Link
+links_after known lower [] = []
+links_after known lower (x ∷ xs) =
+    links_to lower (number_of known x.name) x.above ++ links_after known (number_of known x.name) xs
 
 -- the links of a set as written; none leads to its first state
 abbrev pub links_of : List SetState → List Link
-links_of xs = links_behind (state_texts xs) 0 xs
+links_of xs = links_after (state_texts xs) 0 xs
 
 -- ---- the file
 

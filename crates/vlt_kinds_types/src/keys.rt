@@ -77,7 +77,7 @@ impl File<'_> {
         }
     }
 
-    /// The keys behind a type's name.
+    /// The keys after a type's name.
     #[tactic(auto, unfolding(crate::specs::Types::named_uses))]
     fn add_named<'b>(
         &self,

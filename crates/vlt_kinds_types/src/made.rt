@@ -1,6 +1,6 @@
 //! What a type becomes.
 
-ghost use Rattle.std.specs.Prelude.{◌≡◌, ℕ, List, map, option_map, IfOk};
+ghost use Rattle.std.specs.Prelude.{◌≡◌, ℕ, List, option_map, IfOk};
 ghost use Rattle.vlt_syntax.specs.View as view;
 ghost use Rattle.vlt_core.specs.View as core_view;
 ghost use Rattle.vlt_kinds_types.specs.Types as t;

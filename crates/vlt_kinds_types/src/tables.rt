@@ -105,7 +105,7 @@ fn links_between(
 ) -> Result<Items<Link>, AllocError>
     requires { length texts.now ≤ 32 }
     ensures { IfOk result (λ links. map core_view.link_of links
-        ≡ f.links_behind (map (λ n. n) texts.now) 0 (map view.set_state_of states.now)) }
+        ≡ f.links_after (map (λ n. n) texts.now) 0 (map view.set_state_of states.now)) }
 {
     let mut links = Items::new(alloc);
     let mut lower = 0;

@@ -1,6 +1,6 @@
 //! What is refused in a type where it stands.
 
-ghost use Rattle.std.specs.Prelude.{◌≡◌, Some, map, option_map, length, OnOk};
+ghost use Rattle.std.specs.Prelude.{◌≡◌, Some, option_map, OnOk};
 ghost use Rattle.vlt_syntax.specs.Tree as s;
 ghost use Rattle.vlt_syntax.specs.View as view;
 ghost use Rattle.vlt_kinds_types.specs.Names.Refusals.{least_from};

@@ -15,7 +15,7 @@ same_characters (c ∷ cs) (d ∷ ds) e =
     let same : (c ≡ d) × (encode_utf8_all cs ≡ encode_utf8_all ds) = encode_same c d (encode_utf8_all cs) (encode_utf8_all ds) e in
     ap (λ (n : ℕ). n ∷ cs) same.0 ∙ ap (λ (l : List ℕ). d ∷ l) (same_characters cs ds same.1)
 
--- the bytes of the characters at the front, and those behind
+-- the bytes of the characters at the front, and those after
 pub bytes_split : (text rest front : List ℕ) → IsUtf8 text → IsUtf8 rest → chars text ≡ front ++ chars rest → text ≡ encode_utf8_all front ++ rest
 bytes_split text rest front u v e =
     sym (encodes-chars text u) ∙ ap encode_utf8_all e ∙ encodes-append front (chars rest) ∙ ap (λ (x : List ℕ). encode_utf8_all front ++ x) (encodes-chars rest v)
@@ -26,7 +26,7 @@ front_bytes text rest front u v e =
     let n : length text - length rest ≡ length (encode_utf8_all front) = omega (arith, ap length parts, length-append (encode_utf8_all front) rest) in
     ap (λ (x : List ℕ). take (length text - length rest) x) parts ∙ take_at (encode_utf8_all front) rest (length text - length rest) (sym n)
 
--- what stands behind a character is shorter
+-- what stands after a character is shorter
 pub shorter_by : (text rest front : List ℕ) → IsUtf8 text → IsUtf8 rest → chars text ≡ front ++ chars rest → length rest + length front ≤ length text
 shorter_by text rest front u v e =
     omega (arith, ap length (bytes_split text rest front u v e), length-append (encode_utf8_all front) rest, length-le-encodes front)

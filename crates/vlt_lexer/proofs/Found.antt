@@ -10,24 +10,24 @@ use Rattle.vlt_lexer.specs.declared.token.TokenKind.TheVariants as kind
 use Rattle.vlt_lexer.specs.declared.scan.Stuck.TheVariants as stuck
 use Rattle.vlt_lexer.specs.declared.token.TheConstants.Mark as signs
 use Rattle.vlt_lexer.specs.Spelling.{sign_text}
-use Rattle.vlt_lexer.specs.Characters.{is_blank, is_digit, is_name_start, is_name_more, IsName, IsDigits, value_of, behind, after_line, after_close}
+use Rattle.vlt_lexer.specs.Characters.{is_blank, is_digit, is_name_start, is_name_more, IsName, IsDigits, value_of, following, after_line, after_close}
 use Rattle.vlt_lexer.specs.Lexemes.{IsLongest, IsOf, max_number}
 use Rattle.vlt_lexer.specs.Reading.{IsGap, line, block, IsStuck}
 use Rattle.vlt_lexer.specs.Steps.{run, past_run, past_name, Holds, sign_of, first_beginning, IsNoComment}
-use Rattle.vlt_lexer.proofs.Runs.{behind_splits, run_splits, run_is, some_is}
+use Rattle.vlt_lexer.proofs.Runs.{after_splits, run_splits, run_is, some_is}
 use Rattle.vlt_lexer.proofs.Tables.{begun_splits}
 use Rattle.vlt_lexer.proofs.Pieces.{sign_at, longest_name, longest_digits, longest_tick, longest_sign, no_piece}
 use Rattle.vlt_lexer.proofs.Heads.{sign_head}
 
--- a token stands at the front of the text, and behind it this
+-- a token stands at the front of the text, and after it this
 abbrev pub Stands : TokenKind → List ℕ → List ℕ → Type 0
 Stands k cs after = (front : List ℕ) × (cs ≡ front ++ after) × IsLongest front cs × IsOf k front
 
-pub line_gap : (cs inside after : List ℕ) → behind (codes "//") cs ≡ Some inside → after ≡ after_line inside → IsGap cs after
-line_gap cs inside after e a = line cs inside after (behind_splits (codes "//") cs inside e) a
+pub line_gap : (cs inside after : List ℕ) → following (codes "//") cs ≡ Some inside → after ≡ after_line inside → IsGap cs after
+line_gap cs inside after e a = line cs inside after (after_splits (codes "//") cs inside e) a
 
-pub block_gap : (cs inside after : List ℕ) → behind (codes "/*") cs ≡ Some inside → after_close inside ≡ Some after → IsGap cs after
-block_gap cs inside after e a = block cs inside after (behind_splits (codes "/*") cs inside e) a
+pub block_gap : (cs inside after : List ℕ) → following (codes "/*") cs ≡ Some inside → after_close inside ≡ Some after → IsGap cs after
+block_gap cs inside after e a = block cs inside after (after_splits (codes "/*") cs inside e) a
 
 -- a text that begins with a digit begins with digits, and no piece there is longer
 digits_stand : (text : List ℕ) (c : ℕ) (cs : List ℕ) → text ≡ c ∷ cs → is_digit c ≡ true → IsDigits (run is_digit text) × IsLongest (run is_digit text) text

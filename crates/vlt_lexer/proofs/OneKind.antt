@@ -105,7 +105,7 @@ blank_no_token k c cs after piece is e h = go (piece_at c cs piece after e (piec
     go (at_digits _ ds same starts each) = true_false (sym is ∙ (digit_head c starts).0)
     go (at_mark _ starts which) = true_false (sym is ∙ (sign_head c starts).0)
 
--- what opens a comment, behind its `/`
+-- what opens a comment, after its `/`
 abbrev pub opener : ℕ → List ℕ
 opener second = 47 ∷ second ∷ []
 

@@ -8,7 +8,7 @@ use Rattle.vlt_lexer.specs.Spelling.{sign_text}
 use Rattle.vlt_lexer.specs.Characters.{is_digit, is_name_start, is_name_more, EachIs, IsName}
 use Rattle.vlt_lexer.specs.Lexemes.{IsPiece, name, tick, digits, sign, line_opens, block_opens, IsLongest}
 use Rattle.vlt_lexer.specs.Steps.{run, past_run, past_name, first_beginning, IsNoComment}
-use Rattle.vlt_lexer.proofs.Runs.{none_some, head_is, tail_is, not_empty, true_false, run_longest, not_behind}
+use Rattle.vlt_lexer.proofs.Runs.{none_some, head_is, tail_is, not_empty, true_false, run_longest, not_after}
 use Rattle.vlt_lexer.proofs.Tables.{sign_found, signs_fall, longest_begins, none_begins, begun_splits}
 use Rattle.vlt_lexer.proofs.Heads.{name_head, digit_head, sign_head, is_sign_head, sign_opens, sign_some}
 
@@ -45,7 +45,7 @@ piece_at c cs other rest e block_opens = at_mark (codes "/*") (ap is_sign_head (
 clash : (b : Bool) → b ≡ true → b ≡ false → ⊥
 clash b is isn = true_false (sym is ∙ isn)
 
--- a front behind one character is as long as the run there, at most
+-- a front after one character is as long as the run there, at most
 no_longer : (is : ℕ → Bool) (c : ℕ) (cs other rest ds : List ℕ) → c ∷ cs ≡ other ++ rest → other ≡ c ∷ ds → EachIs is ds → length other ≤ length (c ∷ run is cs)
 no_longer is c cs other rest ds e same each =
     let n : length ds ≤ length (run is cs) = run_longest is cs ds rest each (tail_is (e ∙ ap (λ t. t ++ rest) same)) in
@@ -99,8 +99,8 @@ longest_sign (c ∷ cs) m after first plain = λ other rest e p. go other rest e
     which_is other rest e (a_sign _ n same) =
         let n_is : length (sign_text n) ≤ length (sign_text m) = longest_begins sign_text signs.ALL (c ∷ cs) m after n rest signs_fall first (sign_found n) (e ∙ ap (λ t. t ++ rest) same) in
         omega (arith, ap length same)
-    which_is other rest e (a_line _ same) = absurd (not_behind (codes "//") (c ∷ cs) rest plain.0 (e ∙ ap (λ t. t ++ rest) same))
-    which_is other rest e (a_block _ same) = absurd (not_behind (codes "/*") (c ∷ cs) rest plain.1 (e ∙ ap (λ t. t ++ rest) same))
+    which_is other rest e (a_line _ same) = absurd (not_after (codes "//") (c ∷ cs) rest plain.0 (e ∙ ap (λ t. t ++ rest) same))
+    which_is other rest e (a_block _ same) = absurd (not_after (codes "/*") (c ∷ cs) rest plain.1 (e ∙ ap (λ t. t ++ rest) same))
 
     go : (other rest : List ℕ) → c ∷ cs ≡ other ++ rest → IsAt c other → length other ≤ length (sign_text m)
     go other rest e (at_name _ ds same is each) = absurd (clash _ marks (name_head c is).no_sign)

@@ -1,7 +1,7 @@
--- Runs of a class, and what stands behind a front.
+-- Runs of a class, and what stands after a front.
 use Rattle.std.proofs.Common.{◌≡◌, ℕ, suc, ◌≤◌, Bool, true, false, cond, eqb, List, [], ◌∷◌, ◌++◌, length, Some, None, refl, sym, ◌∙◌, ap, arith}
 use Rattle.std.proofs.lemmas.Bool.{eqb-true, eq-eqb}
-use Rattle.vlt_lexer.specs.Characters.{EachIs, behind}
+use Rattle.vlt_lexer.specs.Characters.{EachIs, following}
 use Rattle.vlt_lexer.specs.Steps.{run, past_run}
 
 pub head_is : {c d : ℕ} {cs ds : List ℕ} → c ∷ cs ≡ d ∷ ds → c ≡ d
@@ -57,19 +57,19 @@ run_longest is (c ∷ cs) (d ∷ other) rest each e = at (is c) (ap is (head_is 
     at true h shorter = omega arith
     at false h shorter = absurd (true_false (sym h))
 
-pub behind_splits : (front cs rest : List ℕ) → behind front cs ≡ Some rest → cs ≡ front ++ rest
-behind_splits [] cs rest e = some_is e
-behind_splits (f ∷ front) [] rest e = absurd cc
-behind_splits (f ∷ front) (c ∷ cs) rest e = at (eqb f c) refl (behind_splits front cs rest) e
+pub after_splits : (front cs rest : List ℕ) → following front cs ≡ Some rest → cs ≡ front ++ rest
+after_splits [] cs rest e = some_is e
+after_splits (f ∷ front) [] rest e = absurd cc
+after_splits (f ∷ front) (c ∷ cs) rest e = at (eqb f c) refl (after_splits front cs rest) e
   where
-    at : (b : Bool) → eqb f c ≡ b → (behind front cs ≡ Some rest → cs ≡ front ++ rest) → cond b (behind front cs) None ≡ Some rest → c ∷ cs ≡ f ∷ (front ++ rest)
+    at : (b : Bool) → eqb f c ≡ b → (following front cs ≡ Some rest → cs ≡ front ++ rest) → cond b (following front cs) None ≡ Some rest → c ∷ cs ≡ f ∷ (front ++ rest)
     at true same splits h = ap (λ (n : ℕ). n ∷ cs) (sym (eqb-true f c same)) ∙ ap (λ (l : List ℕ). f ∷ l) (splits h)
     at false same splits h = absurd cc
 
-pub splits_behind : (front rest : List ℕ) → behind front (front ++ rest) ≡ Some rest
-splits_behind [] rest = refl
-splits_behind (f ∷ front) rest = rw (eq-eqb f f refl) (splits_behind front rest)
+pub splits_after : (front rest : List ℕ) → following front (front ++ rest) ≡ Some rest
+splits_after [] rest = refl
+splits_after (f ∷ front) rest = rw (eq-eqb f f refl) (splits_after front rest)
 
 -- a text that hasn't the front doesn't begin with it
-pub not_behind : (front cs rest : List ℕ) → behind front cs ≡ None → cs ≡ front ++ rest → ⊥
-not_behind front cs rest none e = none_some (sym none ∙ ap (behind front) e ∙ splits_behind front rest)
+pub not_after : (front cs rest : List ℕ) → following front cs ≡ None → cs ≡ front ++ rest → ⊥
+not_after front cs rest none e = none_some (sym none ∙ ap (following front) e ∙ splits_after front rest)

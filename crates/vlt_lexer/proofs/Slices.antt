@@ -5,43 +5,43 @@ use Rattle.std.specs.Str.{chars}
 use Rattle.std.proofs.lemmas.List.{length-append, take_at}
 use Rattle.std.proofs.Math.Seq.{drop-append_seam}
 use Rattle.std.proofs.lemmas.Str.{encodes-chars, encodes-append, length-le-encodes}
-use Rattle.vlt_lexer.specs.Characters.{width, behind, or_else, after_line, after_close}
+use Rattle.vlt_lexer.specs.Characters.{width, following, or_else, after_line, after_close}
 use Rattle.vlt_lexer.specs.Lexemes.{IsPiece}
 use Rattle.vlt_lexer.specs.Reading.{Lexeme, IsGap, blank, line, block, Reads, nothing, gap, token}
 use Rattle.vlt_lexer.specs.Text.{IsTokensOf, AreSlicesOf}
-use Rattle.vlt_lexer.proofs.Runs.{behind_splits, some_is}
+use Rattle.vlt_lexer.proofs.Runs.{after_splits, some_is}
 use Rattle.vlt_lexer.proofs.OneKind.{piece_of, no_empty_piece}
 
--- one text is the other behind some front
-abbrev IsBehind : List ℕ → List ℕ → Type 0
-IsBehind after cs = (front : List ℕ) × (cs ≡ front ++ after)
+-- one text is the other after some front
+abbrev IsAfter : List ℕ → List ℕ → Type 0
+IsAfter after cs = (front : List ℕ) × (cs ≡ front ++ after)
 
-behind_one : (c : ℕ) (cs after : List ℕ) → IsBehind after cs → IsBehind after (c ∷ cs)
-behind_one c cs after h = (c ∷ h.0, ap (λ t. c ∷ t) h.1)
+after_one : (c : ℕ) (cs after : List ℕ) → IsAfter after cs → IsAfter after (c ∷ cs)
+after_one c cs after h = (c ∷ h.0, ap (λ t. c ∷ t) h.1)
 
-line_behind : (cs : List ℕ) → IsBehind (after_line cs) cs
-line_behind [] = ([], refl)
-line_behind (c ∷ cs) = at (eqb c 10) (line_behind cs)
+line_after : (cs : List ℕ) → IsAfter (after_line cs) cs
+line_after [] = ([], refl)
+line_after (c ∷ cs) = at (eqb c 10) (line_after cs)
   where
-    at : (b : Bool) → IsBehind (after_line cs) cs → IsBehind (cond b cs (after_line cs)) (c ∷ cs)
+    at : (b : Bool) → IsAfter (after_line cs) cs → IsAfter (cond b cs (after_line cs)) (c ∷ cs)
     at true h = (c ∷ [], refl)
-    at false h = behind_one c cs (after_line cs) h
+    at false h = after_one c cs (after_line cs) h
 
-close_behind : (cs after : List ℕ) → after_close cs ≡ Some after → IsBehind after cs
-close_behind [] after e = absurd cc
-close_behind (c ∷ cs) after e = at (behind (codes "*/") (c ∷ cs)) refl e (close_behind cs after)
+close_after : (cs after : List ℕ) → after_close cs ≡ Some after → IsAfter after cs
+close_after [] after e = absurd cc
+close_after (c ∷ cs) after e = at (following (codes "*/") (c ∷ cs)) refl e (close_after cs after)
   where
-    at : (b : Option (List ℕ)) → behind (codes "*/") (c ∷ cs) ≡ b → or_else b (after_close cs) ≡ Some after → (after_close cs ≡ Some after → IsBehind after cs) → IsBehind after (c ∷ cs)
-    at None h n rest = behind_one c cs after (rest n)
-    at (Some r) h n rest = (codes "*/", behind_splits (codes "*/") (c ∷ cs) r h ∙ ap (λ t. codes "*/" ++ t) (some_is n))
+    at : (b : Option (List ℕ)) → following (codes "*/") (c ∷ cs) ≡ b → or_else b (after_close cs) ≡ Some after → (after_close cs ≡ Some after → IsAfter after cs) → IsAfter after (c ∷ cs)
+    at None h n rest = after_one c cs after (rest n)
+    at (Some r) h n rest = (codes "*/", after_splits (codes "*/") (c ∷ cs) r h ∙ ap (λ t. codes "*/" ++ t) (some_is n))
 
-behind_two : (front inside after cs : List ℕ) → cs ≡ front ++ inside → IsBehind after inside → IsBehind after cs
-behind_two front inside after cs e h = (front ++ h.0, e ∙ ap (λ t. front ++ t) h.1 ∙ sym (append_assoc front h.0 after))
+after_two : (front inside after cs : List ℕ) → cs ≡ front ++ inside → IsAfter after inside → IsAfter after cs
+after_two front inside after cs e h = (front ++ h.0, e ∙ ap (λ t. front ++ t) h.1 ∙ sym (append_assoc front h.0 after))
 
-gap_behind : (cs after : List ℕ) → IsGap cs after → IsBehind after cs
-gap_behind cs after (blank _ c _ e is) = (c ∷ [], e)
-gap_behind cs after (line _ inside _ e is) = behind_two (codes "//") inside after cs e (subst (λ t. IsBehind t inside) (sym is) (line_behind inside))
-gap_behind cs after (block _ inside _ e is) = behind_two (codes "/*") inside after cs e (close_behind inside after is)
+gap_after : (cs after : List ℕ) → IsGap cs after → IsAfter after cs
+gap_after cs after (blank _ c _ e is) = (c ∷ [], e)
+gap_after cs after (line _ inside _ e is) = after_two (codes "//") inside after cs e (subst (λ t. IsAfter t inside) (sym is) (line_after inside))
+gap_after cs after (block _ inside _ e is) = after_two (codes "/*") inside after cs e (close_after inside after is)
 
 -- the text is so many bytes and then these characters
 abbrev Follows : List ℕ → List ℕ → List ℕ → Type 0
@@ -64,7 +64,7 @@ slice_is before part after text from to e f t =
 pub slices : (text before cs : List ℕ) (ls : List Lexeme) (left : List ℕ) (start : ℕ) → Reads (length text) cs ls left → Follows text before cs → start ≤ length before → AreSlicesOf text start ls
 slices text before cs _ left start (nothing _) f n = tt
 slices text before cs ls left start (gap _ after _ _ g r) f n =
-    let h = gap_behind cs after g in
+    let h = gap_after cs after g in
     slices text (before ++ encode_utf8_all h.0) after ls left start r (follows_more text before cs h.0 after f h.1) (omega (arith, length-append before (encode_utf8_all h.0)))
 slices text before cs _ left start (token _ l after ls _ t r) f n =
     let bytes : encode_utf8_all cs ≡ encode_utf8_all t.piece ++ encode_utf8_all after = ap encode_utf8_all t.begins ∙ encodes-append t.piece after in

@@ -3,7 +3,7 @@ use Rattle.std.proofs.Common.{◌≡◌, ◌∙◌, ℕ, Bool, true, false, List
 use Rattle.std.specs.List.{list_all}
 use Rattle.std.proofs.lemmas.Slice.Eq.{bytes_eq-Decides}
 use Rattle.std.proofs.lemmas.Bool.Decides.{nat_tests}
-use Rattle.vlt_lexer.proofs.Runs.{some_is, not_behind, behind_splits, true_false, head_is}
+use Rattle.vlt_lexer.proofs.Runs.{some_is, not_after, after_splits, true_false, head_is}
 use Rattle.std.specs.Prelude.{filter, slice_get}
 use Rattle.std.proofs.lemmas.Bool.{eq-eqb}
 use Rattle.std.specs.Str.{bytes_eq}
@@ -15,7 +15,7 @@ use Rattle.vlt_lexer.specs.declared.token.TheConstants.Word as words
 use Rattle.vlt_lexer.specs.declared.token.TheConstants.Mark as signs
 use Rattle.vlt_lexer.specs.Spelling.{word_text, sign_text}
 use Rattle.vlt_lexer.specs.Steps.{item_with_text, first_beginning, with_rest, may_begin}
-use Rattle.vlt_lexer.specs.Characters.{behind}
+use Rattle.vlt_lexer.specs.Characters.{following}
 
 pub word_found : (w : Word) → item_with_text word_text words.ALL (word_text w) ≡ Some w
 word_found word.Abstract = refl
@@ -101,17 +101,17 @@ module _ {X : Type 0} (text : X → List ℕ) where
   spelled_passes test [] cs x all e = absurd cc
   spelled_passes test (y ∷ ys) cs x all e = elim (found_in y ys cs x e) [ inl h ↦ ap test h.1 ∙ grind arith | inr h ↦ spelled_passes test ys cs x (grind arith) h ]
 
-  none_in : (y : X) (ys : List X) (cs : List ℕ) → first_beginning text (y ∷ ys) cs ≡ None → (behind (text y) cs ≡ None) × (first_beginning text ys cs ≡ None)
-  none_in y ys cs e = at (behind (text y) cs) refl e
+  none_in : (y : X) (ys : List X) (cs : List ℕ) → first_beginning text (y ∷ ys) cs ≡ None → (following (text y) cs ≡ None) × (first_beginning text ys cs ≡ None)
+  none_in y ys cs e = at (following (text y) cs) refl e
     where
-      at : (b : Option (List ℕ)) → behind (text y) cs ≡ b → with_rest y b (first_beginning text ys cs) ≡ None → (behind (text y) cs ≡ None) × (first_beginning text ys cs ≡ None)
+      at : (b : Option (List ℕ)) → following (text y) cs ≡ b → with_rest y b (first_beginning text ys cs) ≡ None → (following (text y) cs ≡ None) × (first_beginning text ys cs ≡ None)
       at None h n = (h, n)
       at (Some r) h n = absurd cc
 
-  begun_in : (y : X) (ys : List X) (cs : List ℕ) (x : X) (r : List ℕ) → first_beginning text (y ∷ ys) cs ≡ Some (x, r) → ((behind (text y) cs ≡ Some r) × (x ≡ y)) ⊎ ((behind (text y) cs ≡ None) × (first_beginning text ys cs ≡ Some (x, r)))
-  begun_in y ys cs x r e = at (behind (text y) cs) refl e
+  begun_in : (y : X) (ys : List X) (cs : List ℕ) (x : X) (r : List ℕ) → first_beginning text (y ∷ ys) cs ≡ Some (x, r) → ((following (text y) cs ≡ Some r) × (x ≡ y)) ⊎ ((following (text y) cs ≡ None) × (first_beginning text ys cs ≡ Some (x, r)))
+  begun_in y ys cs x r e = at (following (text y) cs) refl e
     where
-      at : (b : Option (List ℕ)) → behind (text y) cs ≡ b → with_rest y b (first_beginning text ys cs) ≡ Some (x, r) → ((behind (text y) cs ≡ Some r) × (x ≡ y)) ⊎ ((behind (text y) cs ≡ None) × (first_beginning text ys cs ≡ Some (x, r)))
+      at : (b : Option (List ℕ)) → following (text y) cs ≡ b → with_rest y b (first_beginning text ys cs) ≡ Some (x, r) → ((following (text y) cs ≡ Some r) × (x ≡ y)) ⊎ ((following (text y) cs ≡ None) × (first_beginning text ys cs ≡ Some (x, r)))
       at None h n = inr (h, n)
       at (Some q) h n = let same : (y, q) ≡ (x, r) = some_is n in inl (h ∙ ap (λ p. Some p.1) same, sym (ap (λ p. p.0) same))
 
@@ -121,7 +121,7 @@ module _ {X : Type 0} (text : X → List ℕ) where
   none_begins (y ∷ ys) cs m rest none there e =
       let ns = none_in y ys cs none in
       elim (found_in y ys (text m) m there) [
-        | inl h ↦ not_behind (text y) cs rest ns.0 (e ∙ ap (λ t. t ++ rest) (sym h.0))
+        | inl h ↦ not_after (text y) cs rest ns.0 (e ∙ ap (λ t. t ++ rest) (sym h.0))
         | inr h ↦ none_begins ys cs m rest ns.1 h e
       ]
 
@@ -129,7 +129,7 @@ module _ {X : Type 0} (text : X → List ℕ) where
   pub begun_splits : (xs : List X) (cs : List ℕ) (x : X) (r : List ℕ) → first_beginning text xs cs ≡ Some (x, r) → cs ≡ text x ++ r
   begun_splits [] cs x r e = absurd cc
   begun_splits (y ∷ ys) cs x r e = elim (begun_in y ys cs x r e) [
-    | inl h ↦ behind_splits (text y) cs r h.0 ∙ ap (λ z. text z ++ r) (sym h.1)
+    | inl h ↦ after_splits (text y) cs r h.0 ∙ ap (λ z. text z ++ r) (sym h.1)
     | inr h ↦ begun_splits ys cs x r h.1
   ]
 
@@ -142,9 +142,9 @@ module _ {X : Type 0} (text : X → List ℕ) where
       at false h = refl
       at true h = absurd (true_false (sym (eq-eqb d c (head_is ((bytes_eq-Decides (d ∷ ds) (c ∷ cs)).0 h))) ∙ e))
 
-  not_begun : (t : List ℕ) (c : ℕ) (cs : List ℕ) → may_begin c t ≡ false → behind t (c ∷ cs) ≡ None
+  not_begun : (t : List ℕ) (c : ℕ) (cs : List ℕ) → may_begin c t ≡ false → following t (c ∷ cs) ≡ None
   not_begun [] c cs e = absurd cc
-  not_begun (d ∷ ds) c cs e = ap (λ b. cond b (behind ds cs) None) e
+  not_begun (d ∷ ds) c cs e = ap (λ b. cond b (following ds cs) None) e
 
   -- so the items that may begin so suffice
   spelled_from : (xs : List X) (c : ℕ) (cs : List ℕ) → item_with_text text (filter (λ x. may_begin c (text x)) xs) (c ∷ cs) ≡ item_with_text text xs (c ∷ cs)
@@ -164,7 +164,7 @@ module _ {X : Type 0} (text : X → List ℕ) where
   begun_from (x ∷ xs) c cs = at (may_begin c (text x)) refl (begun_from xs c cs)
     where
       at : (b : Bool) → may_begin c (text x) ≡ b → first_beginning text (filter (λ x. may_begin c (text x)) xs) (c ∷ cs) ≡ first_beginning text xs (c ∷ cs) → first_beginning text (cond b (x ∷ filter (λ x. may_begin c (text x)) xs) (filter (λ x. may_begin c (text x)) xs)) (c ∷ cs) ≡ first_beginning text (x ∷ xs) (c ∷ cs)
-      at true h rest = ap (λ r. with_rest x (behind (text x) (c ∷ cs)) r) rest
+      at true h rest = ap (λ r. with_rest x (following (text x) (c ∷ cs)) r) rest
       at false h rest = rest ∙ sym (ap (λ b. with_rest x b (first_beginning text xs (c ∷ cs))) (not_begun (text x) c cs h))
 
   -- no item of the table is longer than one before it
@@ -184,7 +184,7 @@ module _ {X : Type 0} (text : X → List ℕ) where
           grind (arith, nat_tests)
     ]
     | inr h ↦ elim (found_in y ys (text m) m there) [
-      | inl k ↦ absurd (not_behind (text y) cs rest h.0 (e ∙ ap (λ t. t ++ rest) (sym k.0)))
+      | inl k ↦ absurd (not_after (text y) cs rest h.0 (e ∙ ap (λ t. t ++ rest) (sym k.0)))
       | inr k ↦ longest_begins ys cs x r m rest (grind arith) h.1 k e
     ]
   ]

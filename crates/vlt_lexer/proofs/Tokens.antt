@@ -22,7 +22,7 @@ stands_token total left after l u v stands text from to = record {
   to = ap (λ n. l.to + n) (width_chars after v) ∙ to;
 }
 
--- whatever is read from here on is read behind what was found
+-- whatever is read from here on is read after what was found
 pub record Found (total : ℕ) (text : List ℕ) (found : List Token) (left : List ℕ) : Type 0 where
   pub goes_on : (ls : List Lexeme) (last : List ℕ) → Reads total left ls last → Reads total text (lexemes found ++ ls) last
 

@@ -37,26 +37,26 @@ value_after n (c ∷ cs) = value_after (n * 10 + (c - 48)) cs
 abbrev pub value_of : List ℕ → ℕ
 value_of digits = value_after 0 digits
 
--- what stands behind a line: nothing, or what follows its LF
+-- what stands after a line: nothing, or what follows its LF
 abbrev pub after_line : List ℕ → List ℕ
 after_line [] = []
 after_line (c ∷ cs) = if c == 10 then cs else after_line cs
 
--- what stands behind these characters, where the text begins with them
-abbrev pub behind : List ℕ → List ℕ → Option (List ℕ)
-behind [] cs = Some cs
-behind (f ∷ fs) [] = None
-behind (f ∷ fs) (c ∷ cs) = if f == c then behind fs cs else None
+-- what stands after these characters, where the text begins with them
+abbrev pub following : List ℕ → List ℕ → Option (List ℕ)
+following [] cs = Some cs
+following (f ∷ fs) [] = None
+following (f ∷ fs) (c ∷ cs) = if f == c then following fs cs else None
 
 -- the first, where there is one, and else the second
 abbrev pub or_else : Option (List ℕ) → Option (List ℕ) → Option (List ℕ)
 or_else None other = other
 or_else (Some cs) other = Some cs
 
--- what stands behind the first `*/`
+-- what stands after the first `*/`
 abbrev pub after_close : List ℕ → Option (List ℕ)
 after_close [] = None
-after_close (c ∷ cs) = or_else (behind (codes "*/") (c ∷ cs)) (after_close cs)
+after_close (c ∷ cs) = or_else (following (codes "*/") (c ∷ cs)) (after_close cs)
 
 -- how many bytes the characters take
 abbrev pub width : List ℕ → ℕ

@@ -13,7 +13,7 @@ pub record Lexeme : Type 0 where
   pub from : ℕ
   pub to : ℕ
 
--- the text begins with a blank or a comment, behind which the second stands
+-- the text begins with a blank or a comment, after which the second stands
 pub data IsGap : List ℕ → List ℕ → Type 0 where
   blank : (cs : List ℕ) (c : ℕ) (after : List ℕ) → cs ≡ c ∷ after → is_blank c ≡ true → IsGap cs after
   line : (cs inside after : List ℕ) → cs ≡ codes "//" ++ inside → after ≡ after_line inside → IsGap cs after

@@ -12,7 +12,7 @@ use Rattle.vlt_lexer.specs.declared.scan.Class.{Class}
 use Rattle.vlt_lexer.specs.declared.scan.Class.TheVariants as class
 use Rattle.vlt_lexer.specs.declared.scan.Piece.{Piece}
 use Rattle.vlt_lexer.specs.declared.scan.Piece.TheVariants as piece
-use Rattle.vlt_lexer.specs.Characters.{is_digit, is_name_start, is_name_more, behind}
+use Rattle.vlt_lexer.specs.Characters.{is_digit, is_name_start, is_name_more, following}
 use Rattle.vlt_lexer.specs.Lexemes.{IsLongest, IsOf, max_number}
 use Rattle.vlt_lexer.specs.Reading.{IsGap}
 
@@ -25,7 +25,7 @@ abbrev pub run : (ℕ → Bool) → List ℕ → List ℕ
 run is [] = []
 run is (c ∷ cs) = if is c then c ∷ run is cs else []
 
--- what stands behind them
+-- what stands after them
 abbrev pub past_run : (ℕ → Bool) → List ℕ → List ℕ
 past_run is [] = []
 past_run is (c ∷ cs) = if is c then past_run is cs else c ∷ cs
@@ -35,7 +35,7 @@ abbrev pub Holds : Option ℤ → ℕ → Type 0
 Holds None n = max_number < n
 Holds (Some z) n = (z ≡ pos n) × (n ≤ max_number)
 
--- what stands behind the name at the front of the text, if it begins with one
+-- what stands after the name at the front of the text, if it begins with one
 abbrev pub past_name : List ℕ → Option (List ℕ)
 past_name [] = None
 past_name (c ∷ cs) = if is_name_start c then Some (past_run is_name_more cs) else None
@@ -45,15 +45,15 @@ abbrev pub item_with_text : {X : Type 0} → (X → List ℕ) → List X → Lis
 item_with_text text [] cs = None
 item_with_text text (x ∷ xs) cs = if bytes_eq (text x) cs then Some x else item_with_text text xs cs
 
--- an item, where its text begins this one, with what stands behind it
+-- an item, where its text begins this one, with what stands after it
 abbrev pub with_rest : {X : Type 0} → X → Option (List ℕ) → Option (X × List ℕ) → Option (X × List ℕ)
 with_rest x None other = other
 with_rest x (Some after) other = Some (x, after)
 
--- the first item whose text begins this one, and what stands behind it
+-- the first item whose text begins this one, and what stands after it
 abbrev pub first_beginning : {X : Type 0} → (X → List ℕ) → List X → List ℕ → Option (X × List ℕ)
 first_beginning text [] cs = None
-first_beginning text (x ∷ xs) cs = with_rest x (behind (text x) cs) (first_beginning text xs cs)
+first_beginning text (x ∷ xs) cs = with_rest x (following (text x) cs) (first_beginning text xs cs)
 
 -- a text may begin with this character
 abbrev pub may_begin : ℕ → List ℕ → Bool
@@ -64,7 +64,7 @@ may_begin c (d ∷ ds) = d == c
 unfoldable pub keyword_of : List ℕ → Option Word
 keyword_of name = item_with_text word_text words.ALL name
 
--- the longest sign at the front of the text, and what stands behind it
+-- the longest sign at the front of the text, and what stands after it
 unfoldable pub sign_of : List ℕ → Option (Mark × List ℕ)
 sign_of cs = first_beginning sign_text signs.ALL cs
 
@@ -74,7 +74,7 @@ kind_of None = kind.Name
 kind_of (Some w) = kind.Keyword w
 
 abbrev pub IsNoComment : List ℕ → Type 0
-IsNoComment cs = (behind (codes "//") cs ≡ None) × (behind (codes "/*") cs ≡ None)
+IsNoComment cs = (following (codes "//") cs ≡ None) × (following (codes "/*") cs ≡ None)
 
 -- what is found at the front of the text
 abbrev pub IsFound : List ℕ → Option Piece → Type 0

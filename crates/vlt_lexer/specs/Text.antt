@@ -20,7 +20,7 @@ lexemes ts = map lexeme ts
 abbrev pub IsTokensOf : List ℕ → List Lexeme → Type 0
 IsTokensOf text ls = IsUtf8 text × Reads (length text) (chars text) ls []
 
--- each token is not empty, is the slice of the text at its place, and begins at or behind the end of the one before
+-- each token is not empty, is the slice of the text at its place, and begins at or after the end of the one before
 abbrev pub AreSlicesOf : List ℕ → ℕ → List Lexeme → Type 0
 AreSlicesOf text start [] = Unit {0}
 AreSlicesOf text start (l ∷ ls) = (start ≤ l.from) × (l.from < l.to) × (l.to ≤ length text) × (l.text ≡ slice_range text l.from l.to) × AreSlicesOf text l.to ls
@@ -29,7 +29,7 @@ AreSlicesOf text start (l ∷ ls) = (start ≤ l.from) × (l.from < l.to) × (l.
 abbrev pub HasTooMany : List ℕ → Type 0
 HasTooMany text = (ls : List Lexeme) × (left : List ℕ) × Reads (length text) (chars text) ls left × (limit_of 3 < length ls)
 
--- tokens within the limit can be read up to this place, and behind it nothing can be
+-- tokens within the limit can be read up to this place, and after it nothing can be
 abbrev pub StopsAt : Stuck → ℕ → List ℕ → Type 0
 StopsAt f at text = (ls : List Lexeme) × (left : List ℕ) × Reads (length text) (chars text) ls left × (length ls ≤ limit_of 3) × IsStuck f left × (at + width left ≡ length text)
 

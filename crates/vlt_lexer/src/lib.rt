@@ -4,7 +4,6 @@
 #![tactic(auto)]
 
 ghost use Rattle.std.specs.Prelude.{◌≡◌, ◌⊎◌, ◌<◌, ◌≤◌, ◌+◌, ◌-◌, ◌^◌, List, length, take, IfOk, IfErr, MatchResult};
-ghost use Rattle.std.specs.Str.{chars, IsUtf8};
 ghost use Rattle.vlt_base.specs.Limits.{limit_of};
 ghost use Rattle.vlt_lexer.specs.Text.{lexemes, IsTokensOf, AreSlicesOf, IsRefused};
 ghost use Rattle.vlt_lexer.specs.Places.{error_at};
@@ -23,7 +22,7 @@ use vlt_base::{Span, limit};
 /// Why a text has no list of tokens. A place is the number of bytes before it.
 #[derive(Clone, Copy, Debug, PartialEq, Eq, Error)]
 pub enum LexError {
-    /// The text isn't UTF-8: the first byte behind its longest valid prefix.
+    /// The text isn't UTF-8: the first byte after its longest valid prefix.
     #[error("the text isn't UTF-8")]
     NotUtf8(u32),
     /// A character with which no token, blank or comment begins.
@@ -74,11 +73,11 @@ impl Stuck {
     }
 }
 
-/// The token of the text between what is left of it before the token and behind it.
+/// The token of the text between what is left of it before the token and after it.
 fn token_between<'a>(kind: TokenKind, text: &str, left: &'a str, after: &str) -> Token<'a>
     requires size { length text.now < 2 ^ 32 }
     requires within { length left.now ≤ length text.now }
-    requires behind { length after.now ≤ length left.now }
+    requires following { length after.now ≤ length left.now }
     ensures kind { result.kind ≡ kind }
     ensures text { result.text.now ≡ take (length left.now - length after.now) left.now }
     ensures from { result.at.from + length left.now ≡ length text.now }

@@ -2,7 +2,7 @@
 
 ghost use Rattle.std.specs.Prelude.{◌≡◌, ◌≤◌, ◌<◌, ◌+◌, ◌*◌, ◌-◌, ◌++◌, ◌∷◌, ℕ, List, [], filter, length, slice_get, true, MatchOption, Some, None, IfSome, IfOk, IfErr, encode_utf8};
 ghost use Rattle.std.specs.Str.{chars};
-ghost use Rattle.vlt_lexer.specs.Characters.{is_blank, is_digit, is_name_start, is_name_more, value_of, after_line, behind, after_close};
+ghost use Rattle.vlt_lexer.specs.Characters.{is_blank, is_digit, is_name_start, is_name_more, value_of, after_line, following, after_close};
 ghost use Rattle.vlt_lexer.specs.Steps.{is_in, run, past_run, past_name, item_with_text, first_beginning, may_begin, keyword_of, sign_of, kind_of, IsNoComment, Holds, IsFound, IsShorter};
 ghost use Rattle.vlt_lexer.specs.Spelling.{word_text, sign_text};
 ghost use Rattle.vlt_lexer.specs.declared.token.TheConstants.Word as words;
@@ -26,7 +26,7 @@ pub enum Stuck {
     OpenComment,
 }
 
-/// What stands at the front of a text, and the text behind it.
+/// What stands at the front of a text, and the text after it.
 #[derive(Clone, Copy, Debug)]
 pub enum Piece<'a> {
     /// A blank or a comment.
@@ -72,7 +72,7 @@ fn continues_name(c: char) -> bool
     }
 }
 
-/// The first character, and the text behind it.
+/// The first character, and the text after it.
 fn first(text: &str) -> Option<(char, &str)>
     ensures split { MatchOption result ((text.now ≡ []) ×
         (chars text.now ≡ [])) (λ x. (chars text.now ≡ x.0 ∷ chars x.1.now) ×
@@ -84,7 +84,7 @@ fn first(text: &str) -> Option<(char, &str)>
     Some((c, chars.as_str()))
 }
 
-/// The text behind the run of the class at its front.
+/// The text after the run of the class at its front.
 fn past(class: Class, text: &str) -> &str
     ensures rest { chars result.now ≡ past_run (is_in class) (chars text.now) }
     ensures no_longer { length result.now ≤ length text.now }
@@ -99,7 +99,7 @@ fn past(class: Class, text: &str) -> &str
     rest
 }
 
-/// The text behind a name that begins with this character, which stands before the text, if one does.
+/// The text after a name that begins with this character, which stands before the text, if one does.
 fn past_name_from(c: char, after: &str) -> Option<&str>
     ensures rest { MatchOption result (past_name (c ∷ chars after.now) ≡ None)
         (λ rest. past_name (c ∷ chars after.now) ≡ Some (chars rest.now)) }
@@ -112,7 +112,7 @@ fn past_name_from(c: char, after: &str) -> Option<&str>
     }
 }
 
-/// The text behind the name at its front, if it begins with one.
+/// The text after the name at its front, if it begins with one.
 fn past_name(text: &str) -> Option<&str>
     ensures rest { MatchOption result (past_name (chars text.now) ≡ None)
         (λ rest. past_name (chars text.now) ≡ Some (chars rest.now)) }
@@ -122,7 +122,7 @@ fn past_name(text: &str) -> Option<&str>
     past_name_from(c, after)
 }
 
-/// The text behind the line at its front.
+/// The text after the line at its front.
 fn past_line(text: &str) -> &str
     ensures rest { chars result.now ≡ after_line (chars text.now) }
     ensures no_longer { length result.now ≤ length text.now }
@@ -137,10 +137,10 @@ fn past_line(text: &str) -> &str
     rest
 }
 
-/// The text behind these ASCII characters, if it begins with them.
-fn behind<'a>(text: &'a str, front: &[u8]) -> Option<&'a str>
-    ensures rest { MatchOption result (behind front.now (chars text.now) ≡ None)
-        (λ rest. behind front.now (chars text.now) ≡ Some (chars rest.now)) }
+/// The text after these ASCII characters, if it begins with them.
+fn following<'a>(text: &'a str, front: &[u8]) -> Option<&'a str>
+    ensures rest { MatchOption result (following front.now (chars text.now) ≡ None)
+        (λ rest. following front.now (chars text.now) ≡ Some (chars rest.now)) }
     ensures taken { IfSome result (λ rest.
         length rest.now + length front.now ≤ length text.now) }
 {
@@ -155,7 +155,7 @@ fn behind<'a>(text: &'a str, front: &[u8]) -> Option<&'a str>
     Some(rest)
 }
 
-/// The text behind the first `*/`.
+/// The text after the first `*/`.
 fn past_close(text: &str) -> Option<&str>
     ensures rest { MatchOption result (after_close (chars text.now) ≡ None)
         (λ rest. after_close (chars text.now) ≡ Some (chars rest.now)) }
@@ -163,7 +163,7 @@ fn past_close(text: &str) -> Option<&str>
 {
     let mut rest = text;
     while let Some((_, after)) = first(rest) {
-        if let Some(closed) = behind(rest, b"*/") {
+        if let Some(closed) = following(rest, b"*/") {
             return Some(closed);
         }
         rest = after;
@@ -180,7 +180,7 @@ fn with_digit(value: Option<i64>, digit: char) -> Option<i64>
     value?.checked_mul(10)?.checked_add(digit)
 }
 
-/// The number that the text begins with, if it is in range, and the text behind its digits.
+/// The number that the text begins with, if it is in range, and the text after its digits.
 fn number(text: &str) -> (Option<i64>, &str)
     ensures value { Holds result.0 (value_of (run is_digit (chars text.now))) }
     ensures rest { chars result.1.now ≡ past_run is_digit (chars text.now) }
@@ -210,7 +210,7 @@ fn first_spelled(words: &[Word], name: &[u8]) -> Option<Word>
     None
 }
 
-/// The first of the signs that begins the text, and the text behind it.
+/// The first of the signs that begins the text, and the text after it.
 fn first_begun<'a>(marks: &[Mark], text: &'a str) -> Option<(Mark, &'a str)>
     ensures sign { MatchOption result
         (first_beginning sign_text marks.now (chars text.now) ≡ None)
@@ -218,7 +218,7 @@ fn first_begun<'a>(marks: &[Mark], text: &'a str) -> Option<(Mark, &'a str)>
     ensures shorter { IfSome result (λ x. length x.1.now < length text.now) }
 {
     for &mark in marks {
-        if let Some(after) = behind(text, mark.text().as_bytes()) {
+        if let Some(after) = following(text, mark.text().as_bytes()) {
             return Some((mark, after));
         }
     }
@@ -301,7 +301,7 @@ fn marks_from(first: char) -> &'static [Mark]
     }
 }
 
-/// The longest sign at the front of the text, which begins with this character, and the text behind it.
+/// The longest sign at the front of the text, which begins with this character, and the text after it.
 #[tactic(auto, unfolding(crate::specs::Steps::sign_of))]
 fn sign(first: char, text: &str) -> Option<(Mark, &str)>
     requires { (cs : List ℕ) × (chars text.now ≡ first ∷ cs) }
@@ -312,7 +312,7 @@ fn sign(first: char, text: &str) -> Option<(Mark, &str)>
     first_begun(marks_from(first), text)
 }
 
-/// The text behind the comment at its front, if it begins with one.
+/// The text after the comment at its front, if it begins with one.
 fn past_comment(text: &str) -> Result<Option<&str>, Stuck>
     ensures gap { IfOk result (λ found. MatchOption found (IsNoComment (chars text.now))
         (λ rest. IsGap (chars text.now) (chars rest.now))) }
@@ -320,10 +320,10 @@ fn past_comment(text: &str) -> Result<Option<&str>, Stuck>
     ensures shorter { IfOk result (λ found. IfSome found
         (λ rest. length rest.now < length text.now)) }
 {
-    if let Some(inside) = behind(text, b"//") {
+    if let Some(inside) = following(text, b"//") {
         return Ok(Some(past_line(inside)));
     }
-    let Some(inside) = behind(text, b"/*") else {
+    let Some(inside) = following(text, b"/*") else {
         return Ok(None);
     };
     match past_close(inside) {

@@ -106,10 +106,10 @@ flags_if None b = []
 flags_if (Some d) b = if b then is_abstract_decl d ∷ [] else []
 
 -- the flags of what stands before, and of the rest
-behind : (o : Option Decl) (e : Decl) (js : Joins) (b : Bool) (t : ℕ) → IsTypeIf o b →
+following : (o : Option Decl) (e : Decl) (js : Joins) (b : Bool) (t : ℕ) → IsTypeIf o b →
     slice_get (of_each flags (befores (record { before = o; after = e } ∷ js))) t ≡ slice_get (flags_if o b ++ of_each flags (befores js)) t
-behind None e js b t is = refl
-behind (Some d) e js b t is = ap (λ b. slice_get ((if b then is_abstract_decl d ∷ [] else []) ++ of_each flags (befores js)) t) is
+following None e js b t is = refl
+following (Some d) e js b t is = ap (λ b. slice_get ((if b then is_abstract_decl d ∷ [] else []) ++ of_each flags (befores js)) t) is
 
 abbrev Both : (js ks : Joins) → Type 0
 Both js ks = (t u : ℕ) → at_in is_type js t ≡ at_in is_type ks u → flagged (slice_get (of_each flags (befores js)) t) ≡ true → flagged (slice_get (of_each flags (befores ks)) u) ≡ true →
@@ -152,12 +152,12 @@ module _ (js ks : Joins) (rest : Both js ks) (e : Decl) where
       ap (λ b. flagged (slice_get ((if b then is_abstract_decl e ∷ [] else []) ++ of_each flags (afters js)) (if b then counted (at_in is_type js) o t else at_in is_type js t))) is ∙
       stays o p same t u
       (sym (ap (λ b. if b then counted (at_in is_type js) o t else at_in is_type js t) is) ∙ (at ∙ ap (λ b. if b then counted (at_in is_type ks) p u else at_in is_type ks u) is2))
-      (sym (ap flagged (behind o e js true t io)) ∙ x) (sym (ap flagged (behind p e2 ks true u ip)) ∙ y)
+      (sym (ap flagged (following o e js true t io)) ∙ x) (sym (ap flagged (following p e2 ks true u ip)) ∙ y)
   step o p e2 same false is is2 io ip t u at x y =
       ap (λ b. flagged (slice_get ((if b then is_abstract_decl e ∷ [] else []) ++ of_each flags (afters js)) (if b then counted (at_in is_type js) o t else at_in is_type js t))) is ∙
       passes o p t u
       (sym (ap (λ b. if b then counted (at_in is_type js) o t else at_in is_type js t) is) ∙ (at ∙ ap (λ b. if b then counted (at_in is_type ks) p u else at_in is_type ks u) is2))
-      (sym (ap flagged (behind o e js false t io)) ∙ x) (sym (ap flagged (behind p e2 ks false u ip)) ∙ y)
+      (sym (ap flagged (following o e js false t io)) ∙ x) (sym (ap flagged (following p e2 ks false u ip)) ∙ y)
 
 both_stay : (js ks : Joins) → Covers js ks → AreJoined js → AreJoined ks → Both js ks
 both_stay [] [] c one two t u at x y = absurd (true≢false (sym x))

@@ -24,7 +24,7 @@ Text = List ℕ
 abbrev pub Other : Text → Text → Type 0
 Other n k = bytes_eq n k ≡ false
 
--- each text is another one than those behind it
+-- each text is another one than those after it
 abbrev pub Distinct : List Text → Type 0
 Distinct [] = Unit {0}
 Distinct (n ∷ ns) = Each (Other n) ns × Distinct ns
@@ -58,7 +58,7 @@ turn n k e = by (bytes_eq k n) refl
     by true f = absurd (true≢false (sym ((bytes_eq-Decides n k).1 (sym ((bytes_eq-Decides k n).0 f))) ∙ e))
     by false f = f
 
--- behind one more
+-- after one more
 still_unknown : (known : Globals) (k : Text) (g : Entity) (n : Text) → Unknown known n → Other k n → Unknown (known ++ (k, g) ∷ []) n
 still_unknown known k g n u o = in_both n k g known ∙ ap₂ (λ (x y : Bool). if x then true else y) (turn k n o) u
 

@@ -12,7 +12,7 @@ use Rattle.vlt_iface.specs.View.{gives, is_placed, others}
 use Rattle.vlt_link_laws.proofs.Sides.{IsGivenOnce, AreApart, IsApart}
 use Rattle.vlt_link_laws.proofs.Given.{each_map}
 use Rattle.vlt_link_laws.proofs.SameTokens.{off}
-use Rattle.vlt_link_laws.proofs.Viewing.{none_behind, further, found_is}
+use Rattle.vlt_link_laws.proofs.Viewing.{none_after, further, found_is}
 
 pub gives_name : (i d : Decl) → gives i d ≡ true → (decl_name i).text ≡ (decl_name d).text
 gives_name (s.stateset n1 ss1 at1) (s.stateset n2 ss2 at2) e = off e
@@ -128,7 +128,7 @@ all_once fs gs (i ∷ is) apart = (given_once fs gs apart i, all_once fs gs is a
 pub apart_modules : (is fs gs : List Decl) → AreApart fs gs → IsApart is fs gs
 apart_modules is fs gs apart = record {
   once = all_once fs gs is apart;
-  rest = sym (ap (λ b. others is b gs) (none_behind fs)) ∙ others_same is fs [] gs (turned fs gs apart);
+  rest = sym (ap (λ b. others is b gs) (none_after fs)) ∙ others_same is fs [] gs (turned fs gs apart);
   names = each_others (λ d. Each (Differ d) (others is fs gs)) is [] fs
       (each_map {P = λ d. Each (Differ d) gs} {R = λ d. Each (Differ d) (others is fs gs)} (λ d x. each_others (Differ d) is fs gs x) fs apart);
 }

@@ -20,8 +20,8 @@ use Rattle.vlt_kinds_types.specs.declared.shapes.Wanted.{Wanted}
 use Rattle.vlt_kinds_types.specs.declared.shapes.Wanted.TheVariants as wanted
 use Rattle.vlt_kinds_types.specs.Types.{KeyUse, key_use, argument_uses, header_uses, named_uses, ty_uses}
 use Rattle.vlt_kinds_heads.specs.Places.{HeadName, used_name, entry_name, parameter_name, parameter_names, head_names, clause_in, result_uses, parameter_uses}
-use Rattle.vlt_kinds_heads.specs.Keys.{Keys, places_behind, keys_behind}
-use Rattle.vlt_kinds_heads.specs.Bounds.{is_key, is_parameter, is_taken, variable_refused, behind_bound, variables_refused}
+use Rattle.vlt_kinds_heads.specs.Keys.{Keys, places_after, keys_after}
+use Rattle.vlt_kinds_heads.specs.Bounds.{is_key, is_parameter, is_taken, variable_refused, after_bound, variables_refused}
 use Rattle.vlt_kinds_heads.specs.Heads.{Seen, is_repeated, with_name, name_refused, names_refused, types_refused, clause_again, typings_refused, result_refused, entry_refused, head_refused_by, head_refused}
 use Rattle.vlt_kinds_heads.specs.Phase.{extern_refused, heads_refused_in}
 use Rattle.vlt_kinds.specs.Kinds.{Kinds}
@@ -340,14 +340,14 @@ names_unknown known seen (n ∷ ns) none = (
   names_unknown known (with_name seen n) ns (no_right (name_refused known seen n) _ none),
 )
 
-variables_unknown : (known : Globals) (ks : Keys) (ps : List Parameter) (again : Bool) (es : List Entry) → along behind_bound (variable_refused known ks ps) again es ≡ [] →
+variables_unknown : (known : Globals) (ks : Keys) (ps : List Parameter) (again : Bool) (es : List Entry) → along after_bound (variable_refused known ks ps) again es ≡ [] →
     Each (λ n. Unknown known n.text) (flat_map entry_variables es)
 unfolding is_taken
 variables_unknown known ks ps again [] none = tt
 variables_unknown known ks ps again (e ∷ es) none =
     each_join (λ n. Unknown known n.text) (entry_variables e) (flat_map entry_variables es)
     (by e (no_left (variable_refused known ks ps again e) _ none))
-    (variables_unknown known ks ps (behind_bound again e) es (no_right (variable_refused known ks ps again e) _ none))
+    (variables_unknown known ks ps (after_bound again e) es (no_right (variable_refused known ks ps again e) _ none))
   where
     by : (e : Entry) → variable_refused known ks ps again e ≡ [] → Each (λ n. Unknown known n.text) (entry_variables e)
     by (s.held k) none = tt
@@ -366,11 +366,11 @@ head_unknown file h none =
     let rs = result_uses file h.result_type in
     let ps = parameter_uses file h.parameters in
     let es = clause_in h.clause in
-    let ks = keys_behind rs ps es in
+    let ks = keys_after rs ps es in
     let one = no_right (types_refused file h) _ none in
     let two = no_right (names_refused file.globals (head_names file h)) _ one in
     let three = no_right (clause_again rs ps es) _ two in
-    let four = no_right (typings_refused (places_behind rs ps es) rs ps) _ three in
+    let four = no_right (typings_refused (places_after rs ps es) rs ps) _ three in
     let five = no_right (result_refused ks rs) _ four in
     let six = no_right (of_each (entry_refused file ks) es) _ five in
     subst (λ ns. Each (Unknown file.globals) (texts ns)) (sym (head_both h))

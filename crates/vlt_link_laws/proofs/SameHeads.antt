@@ -16,7 +16,7 @@ use Rattle.vlt_kinds_types.specs.Types.{KeyUse, key_use, tracked_use, argument_u
 use Rattle.vlt_kinds_heads.specs.declared.facts.Facts.{Facts}
 use Rattle.vlt_kinds_heads.specs.declared.facts.Typing.{Typing}
 use Rattle.vlt_kinds_heads.specs.Places.{result_uses, parameter_uses, clause_in, entry_key}
-use Rattle.vlt_kinds_heads.specs.Keys.{Keys, no_facts, facts_of, with_result, with_parameter, with_entry, note, behind_result, behind_parameters, behind_entry, behind_clause, places_behind, typed_first, with_typing, behind_typing, behind_use, gives_type, behind_fresh, fresh_typed, parameters_typed, typed_keys, keys_behind, keys_of}
+use Rattle.vlt_kinds_heads.specs.Keys.{Keys, no_facts, facts_of, with_result, with_parameter, with_entry, note, following_result, after_parameters, following_entry, following_clause, places_after, typed_first, with_typing, after_typing, after_use, gives_type, after_fresh, fresh_typed, parameters_typed, typed_keys, keys_after, keys_of}
 use Rattle.vlt_kinds_heads.specs.Phase.{number_in, key_number, key_decl, typed_states, states_named, core_entry_in, core_entry, core_result, core_parameter, core_head}
 use Rattle.vlt_link_laws.proofs.Placeless.{placeless_name, placeless_names, placeless_states, placeless_named, placeless_ty, placeless_entry, placeless_result, placeless_parameter, placeless_head}
 
@@ -64,68 +64,68 @@ noted es k change there same =
 
 -- ---- what each place tells
 
-results_behind : (es : Keys) (us : List KeyUse) → behind_result (flat_keys es) (map flat_use us) ≡ flat_keys (behind_result es us)
-results_behind es [] = refl
-results_behind es (u ∷ us) =
-    ap (λ x. behind_result x (map flat_use us)) (noted es u.key (with_result u) (with_result (flat_use u)) (λ f. refl)) ∙ results_behind (note es u.key (with_result u)) us
+results_after : (es : Keys) (us : List KeyUse) → following_result (flat_keys es) (map flat_use us) ≡ flat_keys (following_result es us)
+results_after es [] = refl
+results_after es (u ∷ us) =
+    ap (λ x. following_result x (map flat_use us)) (noted es u.key (with_result u) (with_result (flat_use u)) (λ f. refl)) ∙ results_after (note es u.key (with_result u)) us
 
-parameters_behind : (es : Keys) (us : List KeyUse) → behind_parameters (flat_keys es) (map flat_use us) ≡ flat_keys (behind_parameters es us)
-parameters_behind es [] = refl
-parameters_behind es (u ∷ us) =
-    ap (λ x. behind_parameters x (map flat_use us)) (noted es u.key (with_parameter u) (with_parameter (flat_use u)) (λ f. refl)) ∙ parameters_behind (note es u.key (with_parameter u)) us
+parameters_after : (es : Keys) (us : List KeyUse) → after_parameters (flat_keys es) (map flat_use us) ≡ flat_keys (after_parameters es us)
+parameters_after es [] = refl
+parameters_after es (u ∷ us) =
+    ap (λ x. after_parameters x (map flat_use us)) (noted es u.key (with_parameter u) (with_parameter (flat_use u)) (λ f. refl)) ∙ parameters_after (note es u.key (with_parameter u)) us
 
-entry_behind : (es : Keys) (e : Entry) → behind_entry (flat_keys es) (placeless_entry e) ≡ flat_keys (behind_entry es e)
-entry_behind es (s.held k) = noted es k.key.text (with_entry (s.held k)) (with_entry (placeless_entry (s.held k))) (λ f. refl)
-entry_behind es (s.changed k x y) = noted es k.text (with_entry (s.changed k x y)) (with_entry (placeless_entry (s.changed k x y))) (λ f. refl)
-entry_behind es (s.bound k v b) = noted es k.text (with_entry (s.bound k v b)) (with_entry (placeless_entry (s.bound k v b))) (λ f. refl)
-entry_behind es (s.taken k at) = noted es k.key.text (with_entry (s.taken k at)) (with_entry (placeless_entry (s.taken k at))) (λ f. refl)
-entry_behind es (s.given k at) = noted es k.key.text (with_entry (s.given k at)) (with_entry (placeless_entry (s.given k at))) (λ f. refl)
-entry_behind es (s.fresh k at) = noted es k.key.text (with_entry (s.fresh k at)) (with_entry (placeless_entry (s.fresh k at))) (λ f. refl)
+entry_after : (es : Keys) (e : Entry) → following_entry (flat_keys es) (placeless_entry e) ≡ flat_keys (following_entry es e)
+entry_after es (s.held k) = noted es k.key.text (with_entry (s.held k)) (with_entry (placeless_entry (s.held k))) (λ f. refl)
+entry_after es (s.changed k x y) = noted es k.text (with_entry (s.changed k x y)) (with_entry (placeless_entry (s.changed k x y))) (λ f. refl)
+entry_after es (s.bound k v b) = noted es k.text (with_entry (s.bound k v b)) (with_entry (placeless_entry (s.bound k v b))) (λ f. refl)
+entry_after es (s.taken k at) = noted es k.key.text (with_entry (s.taken k at)) (with_entry (placeless_entry (s.taken k at))) (λ f. refl)
+entry_after es (s.given k at) = noted es k.key.text (with_entry (s.given k at)) (with_entry (placeless_entry (s.given k at))) (λ f. refl)
+entry_after es (s.fresh k at) = noted es k.key.text (with_entry (s.fresh k at)) (with_entry (placeless_entry (s.fresh k at))) (λ f. refl)
 
-clause_behind : (es : Keys) (cs : List Entry) → behind_clause (flat_keys es) (map placeless_entry cs) ≡ flat_keys (behind_clause es cs)
-clause_behind es [] = refl
-clause_behind es (c ∷ cs) = ap (λ x. behind_clause x (map placeless_entry cs)) (entry_behind es c) ∙ clause_behind (behind_entry es c) cs
+clause_after : (es : Keys) (cs : List Entry) → following_clause (flat_keys es) (map placeless_entry cs) ≡ flat_keys (following_clause es cs)
+clause_after es [] = refl
+clause_after es (c ∷ cs) = ap (λ x. following_clause x (map placeless_entry cs)) (entry_after es c) ∙ clause_after (following_entry es c) cs
 
 first_typed : (o : Option Typing) (t at : ℕ) → typed_first (option_map flat_typing o) t 0 ≡ option_map flat_typing (typed_first o t at)
 first_typed None t at = refl
 first_typed (Some had) t at = refl
 
-typing_behind : (es : Keys) (w : Wanted) (k : List ℕ) (at : ℕ) → behind_typing (flat_keys es) w k 0 ≡ flat_keys (behind_typing es w k at)
-typing_behind es wanted.Any k at = refl
-typing_behind es wanted.Unknown k at = refl
-typing_behind es (wanted.OfType t) k at =
+typing_after : (es : Keys) (w : Wanted) (k : List ℕ) (at : ℕ) → after_typing (flat_keys es) w k 0 ≡ flat_keys (after_typing es w k at)
+typing_after es wanted.Any k at = refl
+typing_after es wanted.Unknown k at = refl
+typing_after es (wanted.OfType t) k at =
     noted es k (with_typing t at) (with_typing t 0) (λ f. ap (λ (o : Option Typing). let r : Facts = record f { typing = o } in r) (first_typed f.typing t at))
 
-use_behind : (es : Keys) (u : KeyUse) → behind_use (flat_keys es) (flat_use u) ≡ flat_keys (behind_use es u)
-use_behind es u = typing_behind es u.wanted u.key u.at
+use_after : (es : Keys) (u : KeyUse) → after_use (flat_keys es) (flat_use u) ≡ flat_keys (after_use es u)
+use_after es u = typing_after es u.wanted u.key u.at
 
-fresh_behind : (es : Keys) (u : KeyUse) → behind_fresh (flat_keys es) (flat_use u) ≡ flat_keys (behind_fresh es u)
-fresh_behind es u =
-    ap₂ (λ (x : Bool) y. if x then y else flat_keys es) (ap (λ f. if u.tracked then f.is_fresh else false) (facts_flat es u.key)) (use_behind es u) ∙ by (gives_type es u)
+fresh_after : (es : Keys) (u : KeyUse) → after_fresh (flat_keys es) (flat_use u) ≡ flat_keys (after_fresh es u)
+fresh_after es u =
+    ap₂ (λ (x : Bool) y. if x then y else flat_keys es) (ap (λ f. if u.tracked then f.is_fresh else false) (facts_flat es u.key)) (use_after es u) ∙ by (gives_type es u)
   where
-    by : (x : Bool) → (if x then flat_keys (behind_use es u) else flat_keys es) ≡ flat_keys (if x then behind_use es u else es)
+    by : (x : Bool) → (if x then flat_keys (after_use es u) else flat_keys es) ≡ flat_keys (if x then after_use es u else es)
     by true = refl
     by false = refl
 
 fresh_move : (es : Keys) (us : List KeyUse) → fresh_typed (flat_keys es) (map flat_use us) ≡ flat_keys (fresh_typed es us)
 fresh_move es [] = refl
-fresh_move es (u ∷ us) = ap (λ x. fresh_typed x (map flat_use us)) (fresh_behind es u) ∙ fresh_move (behind_fresh es u) us
+fresh_move es (u ∷ us) = ap (λ x. fresh_typed x (map flat_use us)) (fresh_after es u) ∙ fresh_move (after_fresh es u) us
 
 typed_move : (es : Keys) (us : List KeyUse) → parameters_typed (flat_keys es) (map flat_use us) ≡ flat_keys (parameters_typed es us)
 typed_move es [] = refl
-typed_move es (u ∷ us) = ap (λ x. parameters_typed x (map flat_use us)) (use_behind es u) ∙ typed_move (behind_use es u) us
+typed_move es (u ∷ us) = ap (λ x. parameters_typed x (map flat_use us)) (use_after es u) ∙ typed_move (after_use es u) us
 
-places_flat : (rs ps : List KeyUse) (cs : List Entry) → places_behind (map flat_use rs) (map flat_use ps) (map placeless_entry cs) ≡ flat_keys (places_behind rs ps cs)
-unfolding places_behind
+places_flat : (rs ps : List KeyUse) (cs : List Entry) → places_after (map flat_use rs) (map flat_use ps) (map placeless_entry cs) ≡ flat_keys (places_after rs ps cs)
+unfolding places_after
 places_flat rs ps cs =
-    ap (λ x. behind_clause (behind_parameters x (map flat_use ps)) (map placeless_entry cs)) (results_behind [] rs) ∙
-    (ap (λ x. behind_clause x (map placeless_entry cs)) (parameters_behind (behind_result [] rs) ps) ∙ clause_behind (behind_parameters (behind_result [] rs) ps) cs)
+    ap (λ x. following_clause (after_parameters x (map flat_use ps)) (map placeless_entry cs)) (results_after [] rs) ∙
+    (ap (λ x. following_clause x (map placeless_entry cs)) (parameters_after (following_result [] rs) ps) ∙ clause_after (after_parameters (following_result [] rs) ps) cs)
 
-keys_flat : (rs ps : List KeyUse) (cs : List Entry) → keys_behind (map flat_use rs) (map flat_use ps) (map placeless_entry cs) ≡ flat_keys (keys_behind rs ps cs)
-unfolding keys_behind typed_keys
+keys_flat : (rs ps : List KeyUse) (cs : List Entry) → keys_after (map flat_use rs) (map flat_use ps) (map placeless_entry cs) ≡ flat_keys (keys_after rs ps cs)
+unfolding keys_after typed_keys
 keys_flat rs ps cs =
     ap (λ x. parameters_typed (fresh_typed x (map flat_use rs)) (map flat_use ps)) (places_flat rs ps cs) ∙
-    (ap (λ x. parameters_typed x (map flat_use ps)) (fresh_move (places_behind rs ps cs) rs) ∙ typed_move (fresh_typed (places_behind rs ps cs) rs) ps)
+    (ap (λ x. parameters_typed x (map flat_use ps)) (fresh_move (places_after rs ps cs) rs) ∙ typed_move (fresh_typed (places_after rs ps cs) rs) ps)
 
 -- ---- types
 
@@ -198,8 +198,8 @@ module _ (file : File) where
 
   same_keys : (h : Head) → keys_of file (placeless_head h) ≡ flat_keys (keys_of file h)
   same_keys h =
-      ap₂ (λ rs ps. keys_behind rs ps (clause_in (option_map (map placeless_entry) h.clause))) (same_result_uses h.result_type) (same_parameter_uses h.parameters) ∙
-      (ap (keys_behind (map flat_use (result_uses file h.result_type)) (map flat_use (parameter_uses file h.parameters))) (same_clause h.clause) ∙
+      ap₂ (λ rs ps. keys_after rs ps (clause_in (option_map (map placeless_entry) h.clause))) (same_result_uses h.result_type) (same_parameter_uses h.parameters) ∙
+      (ap (keys_after (map flat_use (result_uses file h.result_type)) (map flat_use (parameter_uses file h.parameters))) (same_clause h.clause) ∙
       keys_flat (result_uses file h.result_type) (parameter_uses file h.parameters) (clause_in h.clause))
 
   -- ---- what a head becomes

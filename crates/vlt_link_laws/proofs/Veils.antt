@@ -41,9 +41,9 @@ abbrev HiddenIf : List (List ℕ) → Decl → Type 0
 HiddenIf hidden (s.abstract n ss at) = list_any (bytes_eq n.text) hidden ≡ true
 HiddenIf hidden d = Unit {0}
 
-any_behind : (p : List ℕ → Bool) (xs ys : List (List ℕ)) → list_any p ys ≡ true → list_any p (xs ++ ys) ≡ true
-any_behind p [] ys e = e
-any_behind p (x ∷ xs) ys e = by (p x) (any_behind p xs ys e)
+any_after : (p : List ℕ → Bool) (xs ys : List (List ℕ)) → list_any p ys ≡ true → list_any p (xs ++ ys) ≡ true
+any_after p [] ys e = e
+any_after p (x ∷ xs) ys e = by (p x) (any_after p xs ys e)
   where
     by : (b : Bool) → list_any p (xs ++ ys) ≡ true → (b || list_any p (xs ++ ys)) ≡ true
     by true e = refl
@@ -51,7 +51,7 @@ any_behind p (x ∷ xs) ys e = by (p x) (any_behind p xs ys e)
 
 more : (xs rest : List (List ℕ)) (i : Decl) → HiddenIf rest i → HiddenIf (xs ++ rest) i
 more xs rest (s.stateset n ss at) h = tt
-more xs rest (s.abstract n ss at) h = any_behind (bytes_eq n.text) xs rest h
+more xs rest (s.abstract n ss at) h = any_after (bytes_eq n.text) xs rest h
 more xs rest (s.struct n ps ss fs r at) h = tt
 more xs rest (s.variant n ps cs at) h = tt
 more xs rest (s.extern h at) x = tt
@@ -137,14 +137,14 @@ second_veils is ms ns =
 -- ---- rule 50 of a module's other declarations
 
 module _ (hidden : List (List ℕ)) (types : List TypeDecl) (file : File) where
-  own_behind : (us is : List Decl) (os : List ℕ) (ds : List Decl) → own_refused hidden types file (map (λ i. origin_of (find (gives i) us)) is ++ os) (with_given is us ++ ds) ≡ [] →
+  own_after : (us is : List Decl) (os : List ℕ) (ds : List Decl) → own_refused hidden types file (map (λ i. origin_of (find (gives i) us)) is ++ os) (with_given is us ++ ds) ≡ [] →
       own_refused hidden types file os ds ≡ []
-  own_behind us [] os ds none = none
-  own_behind us (i ∷ is) os ds none = own_behind us is os ds (no_right (own_refused_in hidden types file (origin_of (find (gives i) us)) (unwrap_or (find (gives i) us) i)) _ none)
+  own_after us [] os ds none = none
+  own_after us (i ∷ is) os ds none = own_after us is os ds (no_right (own_refused_in hidden types file (origin_of (find (gives i) us)) (unwrap_or (find (gives i) us) i)) _ none)
 
   own_each : (ds : List Decl) → own_refused hidden types file (map (λ d. 1) ds) ds ≡ [] → Each (λ d. own_refused_in hidden types file 1 d ≡ []) ds
   own_each [] none = tt
   own_each (d ∷ ds) none = (no_left (own_refused_in hidden types file 1 d) _ none, own_each ds (no_right (own_refused_in hidden types file 1 d) _ none))
 
   pub own_others : (is us : List Decl) → own_refused hidden types file (origins_in is us) (view_decls is us) ≡ [] → Each (λ d. own_refused_in hidden types file 1 d ≡ []) (others is [] us)
-  own_others is us none = own_each (others is [] us) (own_behind us is (map (λ d. 1) (others is [] us)) (others is [] us) none)
+  own_others is us none = own_each (others is [] us) (own_after us is (map (λ d. 1) (others is [] us)) (others is [] us) none)

@@ -46,9 +46,9 @@ after_new : (ds : List Decl) → afters (new_joins ds) ≡ ds
 after_new [] = refl
 after_new (d ∷ ds) = ap (λ ds. d ∷ ds) (after_new ds)
 
-pub none_behind : {A : Type 0} (xs : List A) → xs ++ [] ≡ xs
-none_behind [] = refl
-none_behind (x ∷ xs) = ap (λ ys. x ∷ ys) (none_behind xs)
+pub none_after : {A : Type 0} (xs : List A) → xs ++ [] ≡ xs
+none_after [] = refl
+none_after (x ∷ xs) = ap (λ ys. x ∷ ys) (none_after xs)
 
 pub further : {A : Type 0} (xs ys zs : List A) → (xs ++ ys) ++ zs ≡ xs ++ (ys ++ zs)
 further [] ys zs = refl
@@ -69,7 +69,7 @@ after_given ms fs gs [] = refl
 after_given ms fs gs (i ∷ is) = ap₂ (λ o ds. unwrap_or o i ∷ ds) (sym (found_both (gives i) fs gs)) (after_given ms fs gs is)
 
 pub others_both : (is before fs gs : List Decl) → others is before (fs ++ gs) ≡ others is before fs ++ others is (before ++ fs) gs
-others_both is before [] gs = ap (λ b. others is b gs) (sym (none_behind before))
+others_both is before [] gs = ap (λ b. others is b gs) (sym (none_after before))
 others_both is before (d ∷ fs) gs =
     by (is_placed is before d) (others_both is (before ++ d ∷ []) fs gs ∙ ap (λ b. others is (before ++ d ∷ []) fs ++ others is b gs) (further before (d ∷ []) fs))
   where
@@ -84,7 +84,7 @@ first_is_view is fs gs =
     befores_both (given_joins fs fs gs is) (same_joins (others is [] fs) ++ new_joins (others is fs gs)) ∙
     ap₂ (λ x y. x ++ y) (before_given fs fs gs is)
     (befores_both (same_joins (others is [] fs)) (new_joins (others is fs gs)) ∙
-    (ap₂ (λ x y. x ++ y) (before_same (others is [] fs)) (before_new (others is fs gs)) ∙ none_behind (others is [] fs)))
+    (ap₂ (λ x y. x ++ y) (before_same (others is [] fs)) (before_new (others is fs gs)) ∙ none_after (others is [] fs)))
 
 pub second_is_view : (is fs gs : List Decl) → others is fs gs ≡ others is [] gs → befores (second_joins is fs gs) ≡ view_decls is gs
 second_is_view is fs gs same =

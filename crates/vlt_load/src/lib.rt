@@ -3,7 +3,7 @@
 //! Used by: the command `load`.
 #![tactic(auto)]
 
-ghost use Rattle.std.specs.Prelude.{◌≡◌, ◌≤◌, ◌+◌, ◌++◌, length, codes, IfOk, OnOk, string_bytes};
+ghost use Rattle.std.specs.Prelude.{◌≡◌, ◌≤◌, ◌+◌, ◌++◌, length, IfOk, OnOk, string_bytes};
 ghost use Rattle.vlt_base.specs.Limits.{limit_of};
 ghost use Rattle.vlt_load.specs.Generated.{function_line, call_line, lines, generated_text};
 

@@ -47,20 +47,20 @@ guarded_object g y frame objects = do
   m ← object_at objects n
   if_so (is_adopted_by a.number m.object.owner) not_guarded m
 
-abbrev pub object_behind : (tracked guarded : Option Reference) → (x : ℕ) → (Reference → States) → Frame →
+abbrev pub object_after : (tracked guarded : Option Reference) → (x : ℕ) → (Reference → States) → Frame →
     List Object → Found Named
-object_behind (Some r) g x states frame objects = do
+object_after (Some r) g x states frame objects = do
   m ← tracked_object r x frame objects
   in_states (states r) m
-object_behind None (Some g) x states frame objects = do
+object_after None (Some g) x states frame objects = do
   m ← guarded_object g x frame objects
   in_states (states g) m
-object_behind None None x states frame objects = Err (fault missing None)
+object_after None None x states frame objects = Err (fault missing None)
 
 -- the object that a touch of x's field goes to
 abbrev pub touchable : Program → Func → (x position : ℕ) → Frame → List Object → Found Named
 touchable p f x i frame objects =
-    object_behind (reference_of f x) (guarded_of f x) x (λ r. permitted_in p r.type i) frame objects
+    object_after (reference_of f x) (guarded_of f x) x (λ r. permitted_in p r.type i) frame objects
 
 -- ---- expressions
 

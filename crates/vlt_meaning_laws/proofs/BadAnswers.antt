@@ -78,8 +78,8 @@ module _ (heap : ℕ) (p : Program) (f : Func) (target : Option ℕ) (keys : Lis
   told : World
   told = record (with_event w (called g.name args)) { answers = a.rest; taken = w.taken + 1 }
 
-  behind : World
-  behind = with_objects told a.objects
+  following : World
+  following = with_objects told a.objects
 
   -- what is done with an answer, with one that fits, and what comes before
   fitted : World → Fitting → Step
@@ -118,13 +118,13 @@ module _ (heap : ℕ) (p : Program) (f : Func) (target : Option ℕ) (keys : Lis
   at_taken = ap (λ all. first_answer all (with_event w (called g.name args)) taken) a.answer
 
   at_answer : call_external heap p f target keys g args frame w ≡
-      with_found (or_bad (w.taken + 1) (fitting p g keys frame a.numbers a.objects)) behind (fitted behind)
-  unfolding taken handed heeded behind told
+      with_found (or_bad (w.taken + 1) (fitting p g keys frame a.numbers a.objects)) following (fitted following)
+  unfolding taken handed heeded following told
   at_answer = at_asked ∙ at_taken ∙
       moved_is (is_at frame.depth) (taken_objects keys frame g.clause) a.sent told (handed a.numbers) a.sends ∙
       moved_is is_loose (flat_map objects_in args) a.objects (with_objects told a.sent) (heeded a.numbers) a.hands
 
-  fitted_good : (q : Fitting) → NotBad (fitted behind q)
+  fitted_good : (q : Fitting) → NotBad (fitted following q)
   unfolding fitted
   fitted_good q =
       result_good heap p g keys q.answer.states q.answer.result frame _ (deliver f target) (λ b fr v. deliver_good f target b fr v)
@@ -135,10 +135,10 @@ module _ (heap : ℕ) (p : Program) (f : Func) (target : Option ℕ) (keys : Lis
   bad_unless_kept unkept = by (fitting p g keys frame a.numbers a.objects) unkept at_answer
     where
       by : (x : Found Fitting) → (IsTrue (is_ok x) → ⊥) →
-          call_external heap p f target keys g args frame w ≡ with_found (or_bad (w.taken + 1) x) behind (fitted behind) →
+          call_external heap p f target keys g args frame w ≡ with_found (or_bad (w.taken + 1) x) following (fitted following) →
           EndsInBadAnswer (w.taken + 1) (call_external heap p f target keys g args frame w)
       by (Ok q) unkept e = absurd (unkept refl)
-      by (Err o) unkept e = record { world = behind; is = e }
+      by (Err o) unkept e = record { world = following; is = e }
 
   pub good_where_kept : KeepsClause p g keys frame a.numbers a.objects → (n : ℕ) →
       EndsInBadAnswer n (call_external heap p f target keys g args frame w) → ⊥
@@ -149,6 +149,6 @@ module _ (heap : ℕ) (p : Program) (f : Func) (target : Option ℕ) (keys : Lis
       clash h = h.is
 
       by : (x : Found Fitting) → IsTrue (is_ok x) →
-          call_external heap p f target keys g args frame w ≡ with_found (or_bad (w.taken + 1) x) behind (fitted behind) → ⊥
+          call_external heap p f target keys g args frame w ≡ with_found (or_bad (w.taken + 1) x) following (fitted following) → ⊥
       by (Ok q) kept e = clash (subst NotBad (sym e ∙ bad.is) (fitted_good q))
       by (Err o) kept e = cc

@@ -11,7 +11,7 @@ use Rattle.vlt_meaning.specs.World.{Value, one, of_case, Part, reference, owned,
 use Rattle.vlt_meaning.specs.World as world
 use Rattle.vlt_meaning.specs.Found.{Found, ◌>>=◌, or_fault, Named, if_so}
 use Rattle.vlt_meaning.specs.Objects.{named_in, object_at, in_states, owned_at, objects_after_move}
-use Rattle.vlt_meaning.specs.Values.{held_object, reference_in, tracked_object, object_of, guarded_object, object_behind, touchable, number_in, is_number, or_trap, value_of_both, value_of, number_of}
+use Rattle.vlt_meaning.specs.Values.{held_object, reference_in, tracked_object, object_of, guarded_object, object_after, touchable, number_in, is_number, or_trap, value_of_both, value_of, number_of}
 use Rattle.vlt_meaning.specs.Step.{Step, goes, jumps, leaves, ends, with_found, where_so, spend, first_input, with_input, first_answer, with_answer, with_made, with_moved, with_released, with_dropped, fill, with_filled, deliver, then_do, then_turn, left_block}
 use Rattle.vlt_meaning.specs.Operands.{with_operand, with_operands, part_of, parts_of, with_case_packed, case_object, with_case_opened, Case, case_in, owned_in}
 use Rattle.vlt_meaning.specs.Calls.{passed_object, passed_objects, back_in, with_returned, new_object, returned_object, returned_objects, called_instance}
@@ -94,16 +94,16 @@ guarded_found g y frame os =
     then_found (reference_in (frame.vars y)) _ (reference_found (frame.vars y)) (λ n.
     then_found (object_at os n) _ (at_found os n) (λ m. so_found _ _ m)))
 
-behind_found : (t g : Option Reference) (x : ℕ) (s : Reference → States) (frame : Frame) (os : List Object) →
-    Other (object_behind t g x s frame os)
-behind_found (Some r) g x s frame os =
+after_found : (t g : Option Reference) (x : ℕ) (s : Reference → States) (frame : Frame) (os : List Object) →
+    Other (object_after t g x s frame os)
+after_found (Some r) g x s frame os =
     then_found (tracked_object r x frame os) _ (tracked_found r x frame os) (λ m. states_found (s r) m)
-behind_found None (Some g) x s frame os =
+after_found None (Some g) x s frame os =
     then_found (guarded_object g x frame os) _ (guarded_found g x frame os) (λ m. states_found (s g) m)
-behind_found None None x s frame os = tt
+after_found None None x s frame os = tt
 
 touch_found : (p : Program) (f : Func) (x i : ℕ) (frame : Frame) (os : List Object) → Other (touchable p f x i frame os)
-touch_found p f x i frame os = behind_found (reference_of f x) (guarded_of f x) x _ frame os
+touch_found p f x i frame os = after_found (reference_of f x) (guarded_of f x) x _ frame os
 
 -- ---- expressions
 

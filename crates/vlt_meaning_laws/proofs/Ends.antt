@@ -1,4 +1,4 @@
--- What comes of statements of which the last one ends: never the statement behind them.
+-- What comes of statements of which the last one ends: never the statement after them.
 use Rattle.std.proofs.Common.{◌≡◌, ℕ, Bool, true, false, ◌&&◌, ◌==◌, List, [], ◌∷◌, Option, Some, None, Ok, Err, refl, sym, subst, if◌then◌else◌}
 use Rattle.vlt_ops.specs.Operator.{is_true}
 use Rattle.vlt_core.specs.Core.{Operand, pure, move, pack, Tok, Form, simple, call, choose, loop, switch, focus, scope, return, jump, Block, block, Stmts, done, next, Arms, no_arms, arm, Func, Program}

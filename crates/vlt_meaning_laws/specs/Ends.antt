@@ -1,4 +1,4 @@
--- Statements of which the last one ends: nothing comes behind them.
+-- Statements of which the last one ends: nothing comes after them.
 use Rattle.std.specs.Prelude.{◌≡◌, Bool, true, false, ◌&&◌}
 use Rattle.vlt_core.specs.Core.{Form, choose, switch, scope, return, jump, Block, block, Stmts, done, next, Arms, no_arms, arm}
 use Rattle.vlt_meaning.specs.World.{World, Frame}

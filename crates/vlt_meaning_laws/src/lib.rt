@@ -24,7 +24,7 @@ pub fn runs_only_add()
     ensures { OnlyAdds }
 {}
 
-/// Statements of which the last one ends never come to what is behind them.
+/// Statements of which the last one ends never come to what is after them.
 pub fn ends_stop()
     ensures { EndsStop }
 {}

@@ -305,7 +305,7 @@ runs_field =
       };
     } ∷ []
 
--- A turn of a loop leaves its object behind.
+-- A turn of a loop leaves its object after.
 --   struct point { int x; int y; }
 --   void main() {
 --       int i = 0;

@@ -34,7 +34,7 @@ without_empty_end-onto_first : (part : List ℕ) (x : ℕ) (parts : List (List �
 without_empty_end-onto_first part x [] = refl
 without_empty_end-onto_first part x (next ∷ more) = refl
 
--- behind a separator stands a part more, be it empty
+-- after a separator stands a part more, be it empty
 without_empty_end-slice_split : (p : ℕ → Bool) (part : List ℕ) (xs : List ℕ) → without_empty_end (part ∷ slice_split p xs) ≡ part ∷ without_empty_end (slice_split p xs)
 without_empty_end-slice_split p part [] = refl
 without_empty_end-slice_split p part (x ∷ xs) = by_test (p x)
@@ -43,7 +43,7 @@ without_empty_end-slice_split p part (x ∷ xs) = by_test (p x)
     by_test true = refl
     by_test false = without_empty_end-onto_first part x (slice_split p xs)
 
--- a text that isn't empty is its first line, and the lines behind it
+-- a text that isn't empty is its first line, and the lines after it
 pub lines_of-first : (text : List ℕ) → 0 < length text
     → lines_of text ≡ before_first (is_one_of line_ends) text ∷ lines_of (after_first (is_one_of line_ends) text)
 lines_of-first text h = by_test (ltb (position_or_len p text) (length text)) refl
@@ -58,7 +58,7 @@ lines_of-first text h = by_test (ltb (position_or_len p text) (length text)) ref
         let more : eqb (length text) 0 ≡ false = grind (arith, nat_tests) in
         rw (one_part p text l, take_all (position_or_len p text) text l, drop_all (position_or_len p text + 1) text (omega arith), more)
 
--- and a line is its first word, if there is something in it, and the words behind it
+-- and a line is its first word, if there is something in it, and the words after it
 pub words_of-first : (line : List ℕ)
     → words_of line ≡ cond (ltb 0 (length (before_first (is_one_of blanks) line))) (before_first (is_one_of blanks) line ∷ words_of (after_first (is_one_of blanks) line)) (words_of (after_first (is_one_of blanks) line))
 words_of-first line = by_test (ltb (position_or_len p line) (length line)) refl

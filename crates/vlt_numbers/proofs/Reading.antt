@@ -10,7 +10,7 @@ use Rattle.vlt_numbers.specs.Ends.{are_ends, cut_at}
 use Rattle.vlt_numbers.specs.Text.{is_one_of, line_ends, blanks, is_number, value_of, is_good, lines_of, words_of, numbers_of, first_bad_line, answers_of, input_numbers}
 use Rattle.vlt_numbers.proofs.Cuts.{lines_of-first, words_of-first}
 
--- The rest of a line is still to be read: whether the line is good hangs on it, and its numbers are what lacks behind these.
+-- The rest of a line is still to be read: whether the line is good hangs on it, and its numbers are what lacks after these.
 pub record ReadsLine (line rest : List ℕ) (old now : List ℤ) : Type 0 where
   pub good : is_good rest ≡ is_good line
   pub numbers : now ++ numbers_of rest ≡ old ++ numbers_of line
@@ -19,8 +19,8 @@ pub record ReadsLine (line rest : List ℕ) (old now : List ℤ) : Type 0 where
 abbrev pub word_in : List ℕ → List ℕ
 word_in rest = before_first (is_one_of blanks) rest
 
-abbrev pub behind_word : List ℕ → List ℕ
-behind_word rest = after_first (is_one_of blanks) rest
+abbrev pub after_word : List ℕ → List ℕ
+after_word rest = after_first (is_one_of blanks) rest
 
 pub length-after_first : (p : ℕ → Bool) (xs : List ℕ) → 0 < length xs → length (before_first p xs) + length (after_first p xs) < length xs + 1
 length-after_first p xs h = simp (length-drop, length-take) (omega arith)
@@ -28,25 +28,25 @@ length-after_first p xs h = simp (length-drop, length-take) (omega arith)
 pub shorter : (p : ℕ → Bool) (xs : List ℕ) → 0 < length xs → length (after_first p xs) < length xs
 shorter p xs h = simp length-drop (omega arith)
 
-words_of-word : (rest : List ℕ) → 0 < length (word_in rest) → words_of rest ≡ word_in rest ∷ words_of (behind_word rest)
+words_of-word : (rest : List ℕ) → 0 < length (word_in rest) → words_of rest ≡ word_in rest ∷ words_of (after_word rest)
 words_of-word rest h =
-    words_of-first rest ∙ ap (λ t. cond t (word_in rest ∷ words_of (behind_word rest)) (words_of (behind_word rest))) (lt-ltb 0 _ h)
+    words_of-first rest ∙ ap (λ t. cond t (word_in rest ∷ words_of (after_word rest)) (words_of (after_word rest))) (lt-ltb 0 _ h)
 
 pub pushes : (line rest : List ℕ) (old now : List ℤ) (number : ℤ) → ReadsLine line rest old now → 0 < length rest → 0 < length (word_in rest)
-    → IsTrue (is_number (word_in rest)) → number ≡ value_of (word_in rest) → ReadsLine line (behind_word rest) old (now ++ number ∷ [])
+    → IsTrue (is_number (word_in rest)) → number ≡ value_of (word_in rest) → ReadsLine line (after_word rest) old (now ++ number ∷ [])
 pushes line rest old now number r more h n v =
     let e = words_of-word rest h in
     let l = shorter (is_one_of blanks) rest more in
     record {
-      good = sym (ap (list_all is_number) e ∙ ap (λ t. t && list_all is_number (words_of (behind_word rest))) n) ∙ r.good;
-      numbers = append_assoc now (number ∷ []) (numbers_of (behind_word rest)) ∙ ap (λ m. now ++ m ∷ numbers_of (behind_word rest)) v ∙ sym (ap (λ ws. now ++ map value_of ws) e) ∙ r.numbers;
+      good = sym (ap (list_all is_number) e ∙ ap (λ t. t && list_all is_number (words_of (after_word rest))) n) ∙ r.good;
+      numbers = append_assoc now (number ∷ []) (numbers_of (after_word rest)) ∙ ap (λ m. now ++ m ∷ numbers_of (after_word rest)) v ∙ sym (ap (λ ws. now ++ map value_of ws) e) ∙ r.numbers;
       few = omega (arith, r.few, length_push now number);
     }
 
 pub stops : (line rest : List ℕ) (old now : List ℤ) → ReadsLine line rest old now → 0 < length (word_in rest)
     → (IsTrue (is_number (word_in rest)) → ⊥) → is_good line ≡ false
 stops line rest old now r h n =
-    sym r.good ∙ ap (list_all is_number) (words_of-word rest h) ∙ ap (λ t. t && list_all is_number (words_of (behind_word rest))) (fails (is_number (word_in rest)) n)
+    sym r.good ∙ ap (list_all is_number) (words_of-word rest h) ∙ ap (λ t. t && list_all is_number (words_of (after_word rest))) (fails (is_number (word_in rest)) n)
   where
     fails : (t : Bool) → (t ≡ true → ⊥) → t ≡ false
     fails true k = absurd (k refl)
@@ -63,8 +63,8 @@ pub record ReadsText (text rest : List ℕ) (numbers : List ℤ) (ends : List �
 abbrev pub line_in : List ℕ → List ℕ
 line_in rest = before_first (is_one_of line_ends) rest
 
-abbrev pub behind_line : List ℕ → List ℕ
-behind_line rest = after_first (is_one_of line_ends) rest
+abbrev pub after_line : List ℕ → List ℕ
+after_line rest = after_first (is_one_of line_ends) rest
 
 pub both : (a b : Bool) → IsTrue (a && b) → IsTrue a × IsTrue b
 both true true h = (refl, refl)
@@ -102,7 +102,7 @@ cut_at-push start (end ∷ ends) numbers new h =
 
 pub more_lines : (text rest : List ℕ) (numbers : List ℤ) (ends : List ℕ) → ReadsText text rest numbers ends → 0 < length rest
     → IsTrue (is_good (line_in rest)) → length (numbers ++ numbers_of (line_in rest)) ≤ length numbers + length (line_in rest)
-    → ReadsText text (behind_line rest) (numbers ++ numbers_of (line_in rest)) (ends ++ length (numbers ++ numbers_of (line_in rest)) ∷ [])
+    → ReadsText text (after_line rest) (numbers ++ numbers_of (line_in rest)) (ends ++ length (numbers ++ numbers_of (line_in rest)) ∷ [])
 more_lines text rest numbers ends r more good few =
     let lines = lines_of-first rest more in
     let l = length-after_first (is_one_of line_ends) rest more in
@@ -110,12 +110,12 @@ more_lines text rest numbers ends r more good few =
     let new = numbers_of (line_in rest) in
     record {
       ordered = are_ends-push 0 ends (length numbers) (length (numbers ++ new)) r.ordered (omega (arith, length-append numbers new));
-      answers = ap (λ parts. parts ++ map numbers_of (lines_of (behind_line rest))) (cut_at-push 0 ends numbers new r.ordered)
-          ∙ append_assoc (cut_at 0 ends numbers) (new ∷ []) (map numbers_of (lines_of (behind_line rest)))
+      answers = ap (λ parts. parts ++ map numbers_of (lines_of (after_line rest))) (cut_at-push 0 ends numbers new r.ordered)
+          ∙ append_assoc (cut_at 0 ends numbers) (new ∷ []) (map numbers_of (lines_of (after_line rest)))
           ∙ sym (ap (λ ls. cut_at 0 ends numbers ++ map numbers_of ls) lines) ∙ r.answers;
-      first_bad = ap (λ i. position_from (λ line. not (is_good line)) (i + 1) (lines_of (behind_line rest))) (length_push ends (length (numbers ++ new)))
+      first_bad = ap (λ i. position_from (λ line. not (is_good line)) (i + 1) (lines_of (after_line rest))) (length_push ends (length (numbers ++ new)))
           ∙ sym (ap (position_from (λ line. not (is_good line)) (length ends + 1)) lines
-          ∙ ap (λ t. cond (not t) (Some (length ends + 1)) (position_from (λ line. not (is_good line)) (length ends + 1 + 1) (lines_of (behind_line rest)))) good)
+          ∙ ap (λ t. cond (not t) (Some (length ends + 1)) (position_from (λ line. not (is_good line)) (length ends + 1 + 1) (lines_of (after_line rest)))) good)
           ∙ r.first_bad;
       few_ends = omega (arith, r.few_ends, length_push ends (length (numbers ++ new)));
       few_numbers = omega (arith, r.few_numbers, few, l);
@@ -126,7 +126,7 @@ pub bad_line : (text rest : List ℕ) (numbers : List ℤ) (ends : List ℕ) →
 bad_line text rest numbers ends r more bad =
     let first : first_bad_line text ≡ Some (length ends + 1) =
     sym r.first_bad ∙ ap (position_from (λ line. not (is_good line)) (length ends + 1)) (lines_of-first rest more)
-    ∙ ap (λ t. cond (not t) (Some (length ends + 1)) (position_from (λ line. not (is_good line)) (length ends + 1 + 1) (lines_of (behind_line rest)))) bad in
+    ∙ ap (λ t. cond (not t) (Some (length ends + 1)) (position_from (λ line. not (is_good line)) (length ends + 1 + 1) (lines_of (after_line rest)))) bad in
     ap (λ o. option_map_or Err o (Ok (map numbers_of (lines_of text)))) first
 
 -- the answers are the numbers, cut

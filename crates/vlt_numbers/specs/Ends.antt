@@ -1,4 +1,4 @@
--- Lists of numbers that stand one behind the other, told apart by where each ends.
+-- Lists of numbers that stand one after the other, told apart by where each ends.
 use Rattle.std.specs.Prelude.{ℕ, Bool, ◌&&◌, ◌==◌, nat_le, List, [], ◌∷◌, slice_range, ℤ}
 
 -- whether the ends never fall, from this start on, and the last one is the count

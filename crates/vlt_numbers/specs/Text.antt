@@ -44,7 +44,7 @@ abbrev pub is_in_range : Bool → ℕ → Bool
 is_in_range true magnitude = nat_le magnitude (2 ^ 63)
 is_in_range false magnitude = nat_lt magnitude (2 ^ 63)
 
--- a number is one digit or more, perhaps behind a `-`, and of 64 bits
+-- a number is one digit or more, perhaps after a `-`, and of 64 bits
 abbrev pub is_number : List ℕ → Bool
 is_number word =
     nat_lt 0 (length (digits_of word)) && all_ascii_digits (digits_of word)

@@ -5,9 +5,9 @@ ghost use Rattle.vlt_numbers.specs.Ends.{are_ends};
 /// The answers of a host, each a list of numbers.
 #[derive(Debug, Drop)]
 pub struct Answers {
-    /// The numbers of all answers, one behind the other.
+    /// The numbers of all answers, one after the other.
     pub numbers: Vec<i64>,
-    /// For each answer the position behind its last number.
+    /// For each answer the position after its last number.
     pub ends: Vec<u32>,
     pub ghost ordered: { IsTrue (are_ends 0 ends.items (length numbers.items)) },
     pub ghost few: { length ends.items < 2 ^ 32 },

@@ -40,7 +40,7 @@ pub fn read_input(alloc: Global, text: &[u8]) -> Result<Vec<i64>, NumbersError>
 }
 
 /// Reads an answers file: each line is an answer, with numbers between spaces, tabs and carriage returns.
-/// An empty line is an answer without numbers, and behind a last line feed no further line begins.
+/// An empty line is an answer without numbers, and after a last line feed no further line begins.
 ///
 /// # Errors
 ///
@@ -55,10 +55,10 @@ pub fn read_answers(alloc: Global, text: &[u8]) -> Result<Answers, NumbersError>
     let mut ends = Vec::new(alloc);
     let mut rest = text;
     while !rest.is_empty() {
-        let (line, behind) = cut(rest, LINE_ENDS);
+        let (line, following) = cut(rest, LINE_ENDS);
         push_numbers(&mut numbers, line, ends.len() as u32 + 1)?;
         ends.push(numbers.len() as u32)?;
-        rest = behind;
+        rest = following;
     }
     Ok(Answers { numbers, ends })
 }

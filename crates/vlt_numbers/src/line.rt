@@ -18,23 +18,23 @@ pub fn push_numbers(numbers: &mut Vec<i64>, line: &[u8], at: u32) -> Result<(), 
 {
     let mut rest = line;
     while !rest.is_empty() {
-        let (word, behind) = cut(rest, BLANKS);
+        let (word, following) = cut(rest, BLANKS);
         if !word.is_empty() {
             let Some(number) = number(word) else {
                 return Err(NumbersError::Bad(at));
             };
             numbers.push(number)?;
         }
-        rest = behind;
+        rest = following;
     }
     Ok(())
 }
 
-/// What stands before the first of these bytes, and what stands behind it.
+/// What stands before the first of these bytes, and what stands after it.
 /// Where the text has none of them, that is the text and nothing.
 pub fn cut<'a>(text: &'a [u8], separators: &[u8]) -> (&'a [u8], &'a [u8])
     ensures before { result.0.now ≡ before_first (is_one_of separators.now) text.now }
-    ensures behind { result.1.now ≡ after_first (is_one_of separators.now) text.now }
+    ensures following { result.1.now ≡ after_first (is_one_of separators.now) text.now }
 {
     match text.iter().position(|byte| separators.contains(byte)) {
         Some(at) => (&text[..at], &text[at + 1..]),

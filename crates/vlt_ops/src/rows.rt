@@ -1,4 +1,4 @@
-/// Hands the rows of the table to the macro that it names, behind what stands in that macro's parentheses.
+/// Hands the rows of the table to the macro that it names, after what stands in that macro's parentheses.
 /// So code for each operator is written once, over the rows:
 ///
 /// ```

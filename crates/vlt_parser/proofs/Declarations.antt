@@ -8,7 +8,7 @@ use Rattle.vlt_syntax.specs.Tokens as t
 use Rattle.vlt_syntax.specs.Tokens.{Token}
 use Rattle.vlt_automaton.specs.Language as m
 use Rattle.vlt_syntax.specs.Grammar.{language}
-use Rattle.vlt_automaton.specs.Language.{Symbol, Reaction, Left, Located, run, with_behind, go_on_with}
+use Rattle.vlt_automaton.specs.Language.{Symbol, Reaction, Left, Located, run, with_after, go_on_with}
 use Rattle.vlt_automaton.proofs.Sameness.{same_word-refl}
 use Rattle.vlt_lexer.specs.declared.token.Token.{Token as CodeToken}
 use Rattle.vlt_parser_exprs.specs.declared.lists.Most.{Most}
@@ -37,7 +37,7 @@ ty_shape (t.keyword word.Tracked) = inr (_, refl)
 ty_shape (t.name text) = inr (_, refl)
 ty_shape _ = inl refl
 
-followed_shape : (r : Reaction) (ys : List Symbol) → IsTakenOrRefused r → IsTakenOrRefused (with_behind r ys)
+followed_shape : (r : Reaction) (ys : List Symbol) → IsTakenOrRefused r → IsTakenOrRefused (with_after r ys)
 followed_shape r ys (inl e) = inl (rw e refl)
 followed_shape r ys (inr (xs, e)) = inr (xs ++ ys, rw e refl)
 
@@ -79,11 +79,11 @@ pub decl_can : (ts : List Located) → can_begin m.start_decl ts ≡ true → Ca
 decl_can = can m.start_decl decl_shape
 
 -- what is no declaration by its word begins one where a type begins
-pub other_begins : (x : Token) (ts rest : List Located) → m.start_decl x ≡ with_behind (with_behind (m.start_ty x) m.head_rest) (m.block language.depth ∷ []) → Begins x ts rest
+pub other_begins : (x : Token) (ts rest : List Located) → m.start_decl x ≡ with_after (with_after (m.start_ty x) m.head_rest) (m.block language.depth ∷ []) → Begins x ts rest
     → can_begin m.start_decl ts ≡ can_begin m.start_ty ts
-other_begins x ts rest is b = rw b.is (rw is (takes_followed (with_behind (m.start_ty x) m.head_rest) _ ∙ takes_followed (m.start_ty x) m.head_rest))
+other_begins x ts rest is b = rw b.is (rw is (takes_followed (with_after (m.start_ty x) m.head_rest) _ ∙ takes_followed (m.start_ty x) m.head_rest))
   where
-    takes_followed : (r : Reaction) (ys : List Symbol) → takes (with_behind r ys) ≡ takes r
+    takes_followed : (r : Reaction) (ys : List Symbol) → takes (with_after r ys) ≡ takes r
     takes_followed (m.take xs) ys = refl
     takes_followed m.skip ys = refl
     takes_followed m.refuse ys = refl
@@ -91,7 +91,7 @@ other_begins x ts rest is b = rw b.is (rw is (takes_followed (with_behind (m.sta
 
 -- ---- fields
 
-pub fields_end : (left : Left) (s : List Symbol) (ts : List Located) → can_begin m.start_ty ts ≡ false → run (m.fields left ∷ s) ts ≡ run (m.behind_fields ∷ s) ts
+pub fields_end : (left : Left) (s : List Symbol) (ts : List Located) → can_begin m.start_ty ts ≡ false → run (m.fields left ∷ s) ts ≡ run (m.after_fields ∷ s) ts
 fields_end left s [] none = refl
 fields_end left s (x ∷ xs) none = rw (cannot m.start_ty ty_shape (x ∷ xs) none) refl
 
@@ -114,10 +114,10 @@ pub fields_over : (most : Most) (n : ℕ) (e : ParseError) (s : List Symbol) (ts
 fields_over most n e s ts limit count full can =
     rw full.1 (fails_with _ (Limit most.limit) (m.over_limit most.limit) refl (rw limit (fields_full n s ts can (subst (λ c. c ≤ n) count full.0))))
 
-pub release_some : (s : List Symbol) (ts rest : List Located) → Begins (t.keyword word.Release) ts rest → run (m.behind_fields ∷ s) ts ≡ run (m.states ∷ m.sign mark.Semicolon ∷ m.sign mark.CloseBrace ∷ s) rest
+pub release_some : (s : List Symbol) (ts rest : List Located) → Begins (t.keyword word.Release) ts rest → run (m.after_fields ∷ s) ts ≡ run (m.states ∷ m.sign mark.Semicolon ∷ m.sign mark.CloseBrace ∷ s) rest
 release_some s ts rest b = rw b.is refl
 
-pub release_none : (s : List Symbol) (ts : List Located) → LacksKeyword word.Release ts → run (m.behind_fields ∷ s) ts ≡ run (m.sign mark.CloseBrace ∷ s) ts
+pub release_none : (s : List Symbol) (ts : List Located) → LacksKeyword word.Release ts → run (m.after_fields ∷ s) ts ≡ run (m.sign mark.CloseBrace ∷ s) ts
 release_none s [] lacks = refl
 release_none s (x ∷ xs) lacks = rw lacks refl
 
@@ -127,7 +127,7 @@ pub decl_word : (w : Word) (xs s : List Symbol) (ts rest : List Located) → m.s
 decl_word w xs s ts rest is b = rw b.is (rw is (rw (same_word-refl w) refl))
 
 -- a declaration that none of the words begins
-pub decl_other : (x : Token) (s : List Symbol) (ts rest : List Located) → m.start_decl x ≡ with_behind (m.start_head x) (m.block language.depth ∷ []) → Begins x ts rest
+pub decl_other : (x : Token) (s : List Symbol) (ts rest : List Located) → m.start_decl x ≡ with_after (m.start_head x) (m.block language.depth ∷ []) → Begins x ts rest
     → run (m.thing m.a_decl ∷ s) ts ≡ run (m.head ∷ m.block language.depth ∷ s) ts
 decl_other x s ts rest is b =
     rw b.is (rw is (ap (go_on_with (m.run_over rest) b.at) (settled_followed (m.start_head x) (m.block language.depth ∷ []) s _ _ (skips_followed (m.start_result_type x) m.head_rest ∙ result_type_takes x))))

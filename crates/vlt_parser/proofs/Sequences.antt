@@ -10,11 +10,11 @@ each_then-append spell [] x rest = refl
 each_then-append spell (y ∷ ys) x rest = ap (spell y) (each_then-append spell ys x rest)
 
 -- one more thing was read
-pub one_more : {X Y : Type 0} (view : X → Y) (spell : Y → List Token → List Token) (all items : List X) (item : X) (start here behind : List Token)
-    → all ≡ items ++ item ∷ [] → start ≡ each_then spell (map view items) here → here ≡ spell (view item) behind → start ≡ each_then spell (map view all) behind
-one_more view spell all items item start here behind grown before is_item =
-    before ∙ ap (each_then spell (map view items)) is_item ∙ sym (each_then-append spell (map view items) (view item) behind)
-    ∙ ap (λ xs. each_then spell xs behind) (sym (pushed view all items item grown))
+pub one_more : {X Y : Type 0} (view : X → Y) (spell : Y → List Token → List Token) (all items : List X) (item : X) (start here following : List Token)
+    → all ≡ items ++ item ∷ [] → start ≡ each_then spell (map view items) here → here ≡ spell (view item) following → start ≡ each_then spell (map view all) following
+one_more view spell all items item start here following grown before is_item =
+    before ∙ ap (each_then spell (map view items)) is_item ∙ sym (each_then-append spell (map view items) (view item) following)
+    ∙ ap (λ xs. each_then spell xs following) (sym (pushed view all items item grown))
 
 pub each_more : {X Y : Type 0} (view : X → Y) (P : Y → Type 0) (all items : List X) (item : X) → all ≡ items ++ item ∷ [] → Each P (map view items) → P (view item) → Each P (map view all)
 each_more view P all items item grown each is = each-pushed P (map view all) (map view items) (view item) (pushed view all items item grown) each is

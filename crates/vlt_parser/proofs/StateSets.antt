@@ -30,16 +30,16 @@ StatesGoOn start items above here =
     (n : Name) (xs : List SetState) (rest : List Token) → here ≡ name_then n (further_states_then xs rest) → start ≡ set_states_then (items ++ state above n ∷ xs) rest
 
 -- one more state and the sign before the next were read
-pub states_go_on : (start : List Token) (all items : List SetState) (above link : Bool) (item : Name) (here behind next : List Token)
-    → all ≡ items ++ state above item ∷ [] → StatesGoOn start items above here → here ≡ name_then item behind → behind ≡ t.sign (state_sign link) ∷ next → StatesGoOn start all link next
-states_go_on start all items above link item here behind next grown before is_item is_link n xs rest is =
+pub states_go_on : (start : List Token) (all items : List SetState) (above link : Bool) (item : Name) (here following next : List Token)
+    → all ≡ items ++ state above item ∷ [] → StatesGoOn start items above here → here ≡ name_then item following → following ≡ t.sign (state_sign link) ∷ next → StatesGoOn start all link next
+states_go_on start all items above link item here following next grown before is_item is_link n xs rest is =
     before item (state link n ∷ xs) rest (is_item ∙ ap (name_then item) (is_link ∙ ap (λ ts. t.sign (state_sign link) ∷ ts) is))
     ∙ ap (λ ys. set_states_then ys rest) (sym (append_assoc items (state above item ∷ []) (state link n ∷ xs)) ∙ ap (λ ys. ys ++ state link n ∷ xs) (sym grown))
 
 -- the last state and the closing brace were read
-pub states_closed : (start : List Token) (all items : List SetState) (above : Bool) (item : Name) (here behind rest : List Token)
-    → all ≡ items ++ state above item ∷ [] → StatesGoOn start items above here → here ≡ name_then item behind → behind ≡ t.sign mark.CloseBrace ∷ rest → start ≡ set_states_then all rest
-states_closed start all items above item here behind rest grown before is_item is_closing =
+pub states_closed : (start : List Token) (all items : List SetState) (above : Bool) (item : Name) (here following rest : List Token)
+    → all ≡ items ++ state above item ∷ [] → StatesGoOn start items above here → here ≡ name_then item following → following ≡ t.sign mark.CloseBrace ∷ rest → start ≡ set_states_then all rest
+states_closed start all items above item here following rest grown before is_item is_closing =
     before item [] rest (is_item ∙ ap (name_then item) is_closing) ∙ ap (λ ys. set_states_then ys rest) (sym grown)
 
 -- ---- the first begins a chain
@@ -56,8 +56,8 @@ begins_whole all items above item grown before = subst BeginsChain (sym grown) (
 
 -- ---- places
 
-pub state_stands : (tokens : List CodeToken) (above : Bool) (n : Name) (here behind : ℕ) → Stands name_at tokens here n behind → Stands set_state_at tokens here (state above n) behind
-state_stands tokens above n here behind is = ap (λ x. (state above x.0, x.1)) is
+pub state_stands : (tokens : List CodeToken) (above : Bool) (n : Name) (here following : ℕ) → Stands name_at tokens here n following → Stands set_state_at tokens here (state above n) following
+state_stands tokens above n here following is = ap (λ x. (state above x.0, x.1)) is
 
 -- ---- how many there are
 

@@ -36,7 +36,7 @@ abbrev pub can_begin : (Token → Reaction) → List Located → Bool
 can_begin start [] = false
 can_begin start (x ∷ xs) = takes (start x.token)
 
--- what is left of the limits on states, on fields and on declarations behind so many
+-- what is left of the limits on states, on fields and on declarations after so many
 abbrev pub states_left : ℕ → Left
 states_left n = record { limit = 5; more = language.states - n }
 

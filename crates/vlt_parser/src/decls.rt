@@ -105,16 +105,16 @@ fn fields(
     ensures few { Holds (map field_of) (AtMost language.fields) result }
     ensures moves { MayAdvance tokens.now at result }
     ensures takes { Turns (automaton.fields (fields_left 0) ∷
-        []) (λ x. automaton.behind_fields ∷ []) (λ x. x.1) tokens.now at result }
+        []) (λ x. automaton.after_fields ∷ []) (λ x. x.1) tokens.now at result }
 {
     let most = Some(bound(FIELDS));
     let mut fields = Items::new(alloc);
     let mut here = at;
     while begins_ty(tokens, here) {
         allow_one_more(most, fields.len())?;
-        let (next, behind) = field(alloc, tokens, here)?;
+        let (next, following) = field(alloc, tokens, here)?;
         fields.push(next)?;
-        here = behind;
+        here = following;
     }
     Ok((fields, here))
 }
@@ -131,7 +131,7 @@ fn release(
     ensures placed { Lies (option_map states_of) release_at tokens.now at result }
     ensures right { MayBe (option_map states_of) IsStates result }
     ensures moves { MayAdvance tokens.now at result }
-    ensures takes { Turns (automaton.behind_fields ∷ []) (λ x. automaton.sign CloseBrace ∷
+    ensures takes { Turns (automaton.after_fields ∷ []) (λ x. automaton.sign CloseBrace ∷
         []) (λ x. x.1) tokens.now at result }
 {
     let Ok(next) = keyword(tokens, at, Word::Release) else {
@@ -148,7 +148,7 @@ fn stateset(alloc: Global, tokens: &[Token<'_>], at: usize) -> Result<(Decl, usi
     ensures placed { Lies decl_of decl_at tokens.now at result }
     ensures right { Holds decl_of (IsDecl language) result }
     ensures moves { Advances tokens.now at result }
-    ensures takes { Takes (automaton.keyword Stateset ∷ automaton.behind_stateset)
+    ensures takes { Takes (automaton.keyword Stateset ∷ automaton.after_stateset)
         tokens.now at result }
 {
     let next = keyword(tokens, at, Word::Stateset)?;
@@ -169,7 +169,7 @@ fn abstract_decl(
     ensures placed { Lies decl_of decl_at tokens.now at result }
     ensures right { Holds decl_of (IsDecl language) result }
     ensures moves { Advances tokens.now at result }
-    ensures takes { Takes (automaton.keyword Abstract ∷ automaton.behind_abstract)
+    ensures takes { Takes (automaton.keyword Abstract ∷ automaton.after_abstract)
         tokens.now at result }
 {
     let next = keyword(tokens, at, Word::Abstract)?;
@@ -226,7 +226,7 @@ fn struct_decl(alloc: Global, tokens: &[Token<'_>], at: usize) -> Result<(Decl, 
     ensures placed { Lies decl_of decl_at tokens.now at result }
     ensures right { Holds decl_of (IsDecl language) result }
     ensures moves { Advances tokens.now at result }
-    ensures takes { Takes (automaton.keyword Struct ∷ automaton.behind_struct) tokens.now
+    ensures takes { Takes (automaton.keyword Struct ∷ automaton.after_struct) tokens.now
         at result }
 {
     let (head, next) = struct_head(alloc, tokens, at)?;
@@ -253,7 +253,7 @@ fn variant(alloc: Global, tokens: &[Token<'_>], at: usize) -> Result<(Decl, usiz
     ensures placed { Lies decl_of decl_at tokens.now at result }
     ensures right { Holds decl_of (IsDecl language) result }
     ensures moves { Advances tokens.now at result }
-    ensures takes { Takes (automaton.keyword Variant ∷ automaton.behind_variant) tokens.now at
+    ensures takes { Takes (automaton.keyword Variant ∷ automaton.after_variant) tokens.now at
         result }
 {
     let next = keyword(tokens, at, Word::Variant)?;
@@ -280,7 +280,7 @@ fn external(alloc: Global, tokens: &[Token<'_>], at: usize) -> Result<(Decl, usi
     ensures placed { Lies decl_of decl_at tokens.now at result }
     ensures right { Holds decl_of (IsDecl language) result }
     ensures moves { Advances tokens.now at result }
-    ensures takes { Takes (automaton.keyword Extern ∷ automaton.behind_extern) tokens.now
+    ensures takes { Takes (automaton.keyword Extern ∷ automaton.after_extern) tokens.now
         at result }
 {
     let next = keyword(tokens, at, Word::Extern)?;
@@ -362,9 +362,9 @@ pub fn decls(alloc: Global, tokens: &[Token<'_>]) -> Result<Items<Decl>, ParseEr
             return Err(unexpected(tokens, here));
         }
         allow_one_more(most, decls.len())?;
-        let (next, behind) = decl(alloc, tokens, here)?;
+        let (next, following) = decl(alloc, tokens, here)?;
         decls.push(next)?;
-        here = behind;
+        here = following;
     }
     Ok(decls)
 }

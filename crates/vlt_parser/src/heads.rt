@@ -17,7 +17,7 @@ use vlt_base::{Items, PARAMETERS};
 use vlt_lexer::{Mark, Token, TokenKind, Word};
 use vlt_parser_exprs::ParseError;
 use vlt_parser_exprs::lists::{bound, listed};
-use vlt_parser_exprs::tokens::{behind_sign, kind, name, sign, span};
+use vlt_parser_exprs::tokens::{after_sign, kind, name, sign, span};
 use vlt_parser_exprs::types::ty;
 use vlt_syntax::{Entry, Head, Name, ResultType};
 
@@ -59,7 +59,7 @@ fn clause(
     ensures moves { MayAdvance tokens.now at result }
     ensures takes { Takes (automaton.clause ∷ []) tokens.now at result }
 {
-    match behind_sign(tokens, at, Mark::OpenBracket) {
+    match after_sign(tokens, at, Mark::OpenBracket) {
         Some(next) => {
             let (entries, next) = listed(alloc, tokens, next, Mark::CloseBracket, None)?;
             Ok((Some(entries), next))

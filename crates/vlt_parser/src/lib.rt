@@ -20,7 +20,7 @@ use vlt_syntax::Tree;
 
 /// Reads all of the tokens as one file.
 ///
-/// `Unexpected` has the first byte of the token with which no tree goes on, and `EndOfText` says that trees go on behind the last
+/// `Unexpected` has the first byte of the token with which no tree goes on, and `EndOfText` says that trees go on after the last
 /// one. `Limit` has the number of the limit, from 4 to 9 or 12, that is exceeded. `Memory` says that there was none for the tree,
 /// and leaves open what the tokens are.
 pub fn parse(alloc: Global, tokens: &[Token<'_>]) -> Result<Tree, ParseError>

@@ -12,17 +12,17 @@ ghost use Rattle.vlt_automaton.specs.Language as automaton;
 ghost use Rattle.vlt_parser.specs.Declarations.{states_left};
 ghost use Rattle.vlt_parser_exprs.specs.Ahead.{LacksSign, lexemes_from, refusal};
 ghost use Rattle.vlt_parser_exprs.specs.Promises.{Advances, Comes, Holds, Lies, Spells, Takes};
-ghost use Rattle.vlt_parser_exprs.specs.Reading.{Moves, tokens_from};
+ghost use Rattle.vlt_parser_exprs.specs.Reading.{tokens_from};
 
 use std::alloc::Global;
 use vlt_base::{Items, STATES};
 use vlt_lexer::{Mark, Token};
 use vlt_parser_exprs::ParseError;
 use vlt_parser_exprs::lists::{allow_one_more, bound};
-use vlt_parser_exprs::tokens::{behind_sign, name, sign};
+use vlt_parser_exprs::tokens::{after_sign, name, sign};
 use vlt_syntax::SetState;
 
-/// The sign before a further state: whether it is a `<`, and the position behind it.
+/// The sign before a further state: whether it is a `<`, and the position after it.
 fn state_link(tokens: &[Token<'_>], at: usize) -> Result<(bool, usize), ParseError>
     ensures spelled { IfOk result (λ x. tokens_from tokens.now at
         ≡ a_sign (state_sign x.0) ∷ tokens_from tokens.now x.1) }
@@ -33,7 +33,7 @@ fn state_link(tokens: &[Token<'_>], at: usize) -> Result<(bool, usize), ParseErr
         LacksSign Comma (lexemes_from tokens.now at) ×
         LacksSign Less (lexemes_from tokens.now at)) }
 {
-    if let Some(next) = behind_sign(tokens, at, Mark::Less) {
+    if let Some(next) = after_sign(tokens, at, Mark::Less) {
         return Ok((true, next));
     }
     let next = sign(tokens, at, Mark::Comma)?;
@@ -61,12 +61,12 @@ pub fn set_states(
     let mut above = false;
     let mut here = at;
     loop {
-        let (name, behind) = name(alloc, tokens, here)?;
+        let (name, following) = name(alloc, tokens, here)?;
         states.push(SetState { name, above })?;
-        if let Some(end) = behind_sign(tokens, behind, Mark::CloseBrace) {
+        if let Some(end) = after_sign(tokens, following, Mark::CloseBrace) {
             return Ok((states, end));
         }
-        let (link, next) = state_link(tokens, behind)?;
+        let (link, next) = state_link(tokens, following)?;
         allow_one_more(most, states.len())?;
         above = link;
         here = next;

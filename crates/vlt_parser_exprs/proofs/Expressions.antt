@@ -16,40 +16,40 @@ use Rattle.vlt_parser_exprs.proofs.Runs.{fails_with, begins, name_takes, operand
 use Rattle.vlt_parser_exprs.specs.Ahead.{Begins, LacksSign, refusal, Fails, BeginsOperator, next_level, level_of, sign_level, sign_in}
 
 pub operand_named : (text : List ℕ) (room : ℕ) (fs : List Pending) (s : List Symbol) (ts rest : List Located) → Begins (t.name text) ts rest
-    → run (m.operand room fs ∷ s) ts ≡ run (m.name ∷ m.behind_variable 1 fs ∷ s) ts
+    → run (m.operand room fs ∷ s) ts ≡ run (m.name ∷ m.after_variable 1 fs ∷ s) ts
 operand_named text room fs s ts rest b = rw b.is refl
 
-pub operand_taken : (x : Token) (room : ℕ) (fs : List Pending) (s : List Symbol) (ts rest : List Located) → m.start_operand room fs x ≡ m.take (m.behind_operand 1 fs ∷ []) → Begins x ts rest
-    → run (m.operand room fs ∷ s) ts ≡ run (m.behind_operand 1 fs ∷ s) rest
+pub operand_taken : (x : Token) (room : ℕ) (fs : List Pending) (s : List Symbol) (ts rest : List Located) → m.start_operand room fs x ≡ m.take (m.after_operand 1 fs ∷ []) → Begins x ts rest
+    → run (m.operand room fs ∷ s) ts ≡ run (m.after_operand 1 fs ∷ s) rest
 operand_taken x room fs s ts rest is b = rw b.is (rw is refl)
 
--- behind a name
-behind_dot : (depth : ℕ) (fs : List Pending) (s : List Symbol) (ts rest : List Located) → Begins (t.sign mark.Dot) ts rest
-    → run (m.behind_variable depth fs ∷ s) ts ≡ run (m.name ∷ m.behind_operand depth fs ∷ s) rest
-behind_dot depth [] s ts rest b = rw b.is refl
-behind_dot depth (m.prefixed ∷ fs) s ts rest b = behind_dot (suc depth) fs s ts rest b
-behind_dot depth (m.level_from least room ∷ fs) s ts rest b = rw b.is refl
-behind_dot depth (m.right_of least room left ∷ fs) s ts rest b = rw b.is refl
+-- after a name
+after_dot : (depth : ℕ) (fs : List Pending) (s : List Symbol) (ts rest : List Located) → Begins (t.sign mark.Dot) ts rest
+    → run (m.after_variable depth fs ∷ s) ts ≡ run (m.name ∷ m.after_operand depth fs ∷ s) rest
+after_dot depth [] s ts rest b = rw b.is refl
+after_dot depth (m.prefixed ∷ fs) s ts rest b = after_dot (suc depth) fs s ts rest b
+after_dot depth (m.level_from least room ∷ fs) s ts rest b = rw b.is refl
+after_dot depth (m.right_of least room left ∷ fs) s ts rest b = rw b.is refl
 
-behind_alone : (depth : ℕ) (fs : List Pending) (s : List Symbol) (ts : List Located) → LacksSign mark.Dot ts
-    → run (m.behind_name depth fs ∷ s) ts ≡ run (m.operations depth fs ∷ s) ts
-behind_alone depth fs s [] lacks = refl
-behind_alone depth fs s (x ∷ xs) lacks = rw lacks refl
+after_alone : (depth : ℕ) (fs : List Pending) (s : List Symbol) (ts : List Located) → LacksSign mark.Dot ts
+    → run (m.following_name depth fs ∷ s) ts ≡ run (m.operations depth fs ∷ s) ts
+after_alone depth fs s [] lacks = refl
+after_alone depth fs s (x ∷ xs) lacks = rw lacks refl
 
-behind_no_dot : (depth : ℕ) (fs : List Pending) (s : List Symbol) (ts : List Located) → LacksSign mark.Dot ts
-    → run (m.behind_variable depth fs ∷ s) ts ≡ run (m.behind_operand depth fs ∷ s) ts
-behind_no_dot depth [] s ts lacks = behind_alone depth [] s ts lacks
-behind_no_dot depth (m.prefixed ∷ fs) s ts lacks = behind_no_dot (suc depth) fs s ts lacks
-behind_no_dot depth (m.level_from least room ∷ fs) s ts lacks = behind_alone depth (m.level_from least room ∷ fs) s ts lacks
-behind_no_dot depth (m.right_of least room left ∷ fs) s ts lacks = behind_alone depth (m.right_of least room left ∷ fs) s ts lacks
+after_no_dot : (depth : ℕ) (fs : List Pending) (s : List Symbol) (ts : List Located) → LacksSign mark.Dot ts
+    → run (m.after_variable depth fs ∷ s) ts ≡ run (m.after_operand depth fs ∷ s) ts
+after_no_dot depth [] s ts lacks = after_alone depth [] s ts lacks
+after_no_dot depth (m.prefixed ∷ fs) s ts lacks = after_no_dot (suc depth) fs s ts lacks
+after_no_dot depth (m.level_from least room ∷ fs) s ts lacks = after_alone depth (m.level_from least room ∷ fs) s ts lacks
+after_no_dot depth (m.right_of least room left ∷ fs) s ts lacks = after_alone depth (m.right_of least room left ∷ fs) s ts lacks
 
 pub variable_dot : (fs : List Pending) (s : List Symbol) (ts rest : List Located) → Begins (t.sign mark.Dot) ts rest
-    → run (m.behind_variable 1 fs ∷ s) ts ≡ run (m.name ∷ m.behind_operand 1 fs ∷ s) rest
-variable_dot = behind_dot 1
+    → run (m.after_variable 1 fs ∷ s) ts ≡ run (m.name ∷ m.after_operand 1 fs ∷ s) rest
+variable_dot = after_dot 1
 
 pub variable_alone : (fs : List Pending) (s : List Symbol) (ts : List Located) → LacksSign mark.Dot ts
-    → run (m.behind_variable 1 fs ∷ s) ts ≡ run (m.behind_operand 1 fs ∷ s) ts
-variable_alone = behind_no_dot 1
+    → run (m.after_variable 1 fs ∷ s) ts ≡ run (m.after_operand 1 fs ∷ s) ts
+variable_alone = after_no_dot 1
 
 -- something that may be deeper, and is allowed or not
 if_allowed : (depth room inside : ℕ) (xs : List Symbol) → room ≡ suc inside → depth ≤ inside → m.if_deeper depth room xs ≡ m.take xs
@@ -158,7 +158,7 @@ no_operator depth fs (t.sign sg) low = rw (low_is_none sg low) refl
 no_operator depth fs _ low = refl
 
 pub group_closes : (depth inside : ℕ) (fs : List Pending) (s : List Symbol) (ts rest : List Located) → Begins (t.sign mark.CloseParen) ts rest
-    → run (m.operations depth (m.level_from m.lowest inside ∷ []) ∷ m.close_group fs ∷ s) ts ≡ run (m.behind_operand (suc depth) fs ∷ s) rest
+    → run (m.operations depth (m.level_from m.lowest inside ∷ []) ∷ m.close_group fs ∷ s) ts ≡ run (m.after_operand (suc depth) fs ∷ s) rest
 group_closes depth inside fs s ts rest b = rw b.is refl
 
 pub group_stays_open : (depth inside : ℕ) (fs : List Pending) (s : List Symbol) (ts : List Located) → next_level ts < 2 → LacksSign mark.CloseParen ts

@@ -9,7 +9,7 @@ use Rattle.vlt_syntax.specs.Tokens as t
 use Rattle.vlt_syntax.specs.Tokens.{Token}
 use Rattle.vlt_automaton.specs.Language as m
 use Rattle.vlt_syntax.specs.Grammar.{language}
-use Rattle.vlt_automaton.specs.Language.{Symbol, Reaction, Thing, Pending, Left, Located, run, with_behind, next_after, go_on_with, reaction_behind, may_skip, depth_read, on_sign}
+use Rattle.vlt_automaton.specs.Language.{Symbol, Reaction, Thing, Pending, Left, Located, run, with_after, next_after, go_on_with, reaction_after, may_skip, depth_read, on_sign}
 use Rattle.vlt_automaton.proofs.Sameness.{same_mark-refl}
 use Rattle.vlt_lexer.specs.declared.token.Token.{Token as CodeToken}
 use Rattle.vlt_parser_exprs.specs.declared.lists.Most.{Most}
@@ -38,13 +38,13 @@ abbrev pub is_skip : Reaction → Bool
 is_skip m.skip = true
 is_skip _ = false
 
-pub skips_followed : (r : Reaction) (xs : List Symbol) → is_skip (with_behind r xs) ≡ is_skip r
+pub skips_followed : (r : Reaction) (xs : List Symbol) → is_skip (with_after r xs) ≡ is_skip r
 skips_followed (m.take ys) xs = refl
 skips_followed m.skip xs = refl
 skips_followed m.refuse xs = refl
 skips_followed (m.exceed n) xs = refl
 
-pub settled_followed : (r : Reaction) (rest s : List Symbol) (a b : Unit {0} → m.Next) → is_skip r ≡ false → next_after (with_behind r rest) s a ≡ next_after r (rest ++ s) b
+pub settled_followed : (r : Reaction) (rest s : List Symbol) (a b : Unit {0} → m.Next) → is_skip r ≡ false → next_after (with_after r rest) s a ≡ next_after r (rest ++ s) b
 settled_followed (m.take xs) rest s a b e = ap m.to (append_assoc xs rest s)
 settled_followed m.skip rest s a b e = absurd cc
 settled_followed m.refuse rest s a b e = refl
@@ -58,19 +58,19 @@ settled_alike (m.exceed n) s a b e = refl
 
 -- a symbol that begins as another does, and then has these
 pub begins : (y z : Symbol) (rest : List Symbol) → may_skip y ≡ false → may_skip z ≡ false
-    → ((x : Token) → reaction_behind 0 y x ≡ with_behind (reaction_behind 0 z x) rest) → ((x : Token) → is_skip (reaction_behind 0 z x) ≡ false)
+    → ((x : Token) → reaction_after 0 y x ≡ with_after (reaction_after 0 z x) rest) → ((x : Token) → is_skip (reaction_after 0 z x) ≡ false)
     → (s : List Symbol) (ts : List Located) → run (y ∷ s) ts ≡ run (z ∷ rest ++ s) ts
 begins y z rest at_y at_z same takes s [] = rw (at_y, at_z) refl
 begins y z rest at_y at_z same takes s (x ∷ xs) =
-    rw (same x.token) (ap (go_on_with (m.run_over xs) x.at) (settled_followed (reaction_behind 0 z x.token) rest s _ _ (takes x.token)))
+    rw (same x.token) (ap (go_on_with (m.run_over xs) x.at) (settled_followed (reaction_after 0 z x.token) rest s _ _ (takes x.token)))
 
 -- a symbol that begins with a sign, and that comes
-pub sign_taken : (y : Symbol) (opening : Mark) (xs : List Symbol) (other : Token → Reaction) → ((x : Token) → reaction_behind 0 y x ≡ on_sign opening x (m.take xs) (other x))
+pub sign_taken : (y : Symbol) (opening : Mark) (xs : List Symbol) (other : Token → Reaction) → ((x : Token) → reaction_after 0 y x ≡ on_sign opening x (m.take xs) (other x))
     → (s : List Symbol) (ts rest : List Located) → Begins (t.sign opening) ts rest → run (y ∷ s) ts ≡ run (xs ++ s) rest
 sign_taken y opening xs other same s ts rest b = rw b.is (rw (same (t.sign opening)) (rw (same_mark-refl opening) refl))
 
 -- a symbol that may be skipped, and whose sign doesn't come
-pub sign_skipped : (y : Symbol) (opening : Mark) (then_this : Reaction) → ((x : Token) → reaction_behind 0 y x ≡ on_sign opening x then_this m.skip) → may_skip y ≡ true → depth_read y ≡ 0
+pub sign_skipped : (y : Symbol) (opening : Mark) (then_this : Reaction) → ((x : Token) → reaction_after 0 y x ≡ on_sign opening x then_this m.skip) → may_skip y ≡ true → depth_read y ≡ 0
     → (s : List Symbol) (ts : List Located) → LacksSign opening ts → run (y ∷ s) ts ≡ run s ts
 sign_skipped y opening then_this same may none s [] lacks = rw may refl
 sign_skipped y opening then_this same may none s (x ∷ xs) lacks = rw (same x.token) (rw lacks (rw none refl))
@@ -201,7 +201,7 @@ thing_takes m.a_decl x = decl_takes x
 
 pub listed_closed : (k : Thing) (closing : Mark) (left : Option Left) (s : List Symbol) (ts rest : List Located)
     → Begins (t.sign closing) ts rest → run (m.listed k closing left ∷ s) ts ≡ run s rest
-listed_closed k closing left s ts rest = sign_taken (m.listed k closing left) closing [] (λ x. with_behind (m.start_thing k x) (m.further k closing (m.less left) ∷ [])) (λ x. refl) s ts rest
+listed_closed k closing left s ts rest = sign_taken (m.listed k closing left) closing [] (λ x. with_after (m.start_thing k x) (m.further k closing (m.less left) ∷ [])) (λ x. refl) s ts rest
 
 -- a limit with one less
 less_one : (most : Option Most) → m.less (left_of most 0) ≡ left_of most 1
@@ -251,30 +251,30 @@ key_is s ts = begins (m.thing m.a_key) m.name (m.at_states ∷ []) refl refl (λ
 pub named_is : (s : List Symbol) (ts : List Located) → run (m.named ∷ s) ts ≡ run (m.name ∷ m.enclosed m.a_name mark.Less mark.Greater None ∷ s) ts
 named_is s ts = begins m.named m.name m.named_rest refl refl (λ x. refl) name_takes s ts
 
-pub tracked_keyed : (s : List Symbol) (ts rest : List Located) → Begins (t.sign mark.OpenParen) ts rest → run (m.behind_tracked ∷ s) ts ≡ run (m.name ∷ m.sign mark.CloseParen ∷ m.named ∷ s) rest
-tracked_keyed s ts rest = sign_taken m.behind_tracked mark.OpenParen (m.name ∷ m.sign mark.CloseParen ∷ m.named ∷ [])
-    (λ x. on_sign mark.At x (m.take (m.states ∷ m.named ∷ [])) (with_behind (m.start_name x) m.named_rest)) (λ x. refl) s ts rest
+pub tracked_keyed : (s : List Symbol) (ts rest : List Located) → Begins (t.sign mark.OpenParen) ts rest → run (m.after_tracked ∷ s) ts ≡ run (m.name ∷ m.sign mark.CloseParen ∷ m.named ∷ s) rest
+tracked_keyed s ts rest = sign_taken m.after_tracked mark.OpenParen (m.name ∷ m.sign mark.CloseParen ∷ m.named ∷ [])
+    (λ x. on_sign mark.At x (m.take (m.states ∷ m.named ∷ [])) (with_after (m.start_name x) m.named_rest)) (λ x. refl) s ts rest
 
-pub tracked_plain : (s : List Symbol) (ts : List Located) → LacksSign mark.OpenParen ts → run (m.behind_tracked ∷ s) ts ≡ run (m.at_states ∷ m.named ∷ s) ts
+pub tracked_plain : (s : List Symbol) (ts : List Located) → LacksSign mark.OpenParen ts → run (m.after_tracked ∷ s) ts ≡ run (m.at_states ∷ m.named ∷ s) ts
 tracked_plain s [] lacks = refl
 tracked_plain s (x ∷ xs) lacks = rw lacks (by_at (m.is_sign mark.At x.token))
   where
-    by_at : (b : Bool) → go_on_with (m.run_over xs) x.at (next_after (if b then m.take (m.states ∷ m.named ∷ []) else with_behind (m.start_name x.token) m.named_rest) s (λ u. m.step_behind 0 s x.token))
-        ≡ go_on_with (m.run_over xs) x.at (next_after (if b then m.take (m.states ∷ []) else m.skip) (m.named ∷ s) (λ u. m.step_behind 0 (m.named ∷ s) x.token))
+    by_at : (b : Bool) → go_on_with (m.run_over xs) x.at (next_after (if b then m.take (m.states ∷ m.named ∷ []) else with_after (m.start_name x.token) m.named_rest) s (λ u. m.step_after 0 s x.token))
+        ≡ go_on_with (m.run_over xs) x.at (next_after (if b then m.take (m.states ∷ []) else m.skip) (m.named ∷ s) (λ u. m.step_after 0 (m.named ∷ s) x.token))
     by_at true = refl
-    by_at false = ap (go_on_with (m.run_over xs) x.at) (settled_alike (with_behind (m.start_name x.token) m.named_rest) s _ _ (skips_followed (m.start_name x.token) m.named_rest ∙ name_takes x.token))
+    by_at false = ap (go_on_with (m.run_over xs) x.at) (settled_alike (with_after (m.start_name x.token) m.named_rest) s _ _ (skips_followed (m.start_name x.token) m.named_rest ∙ name_takes x.token))
 
-pub type_name_guards : (s : List Symbol) (ts rest : List Located) → Begins (t.sign mark.Colon) ts rest → run (m.behind_type_name ∷ s) ts ≡ run (m.named ∷ s) rest
-type_name_guards s ts rest = sign_taken m.behind_type_name mark.Colon (m.named ∷ []) (λ x. on_sign mark.Less x (m.take (m.name ∷ m.further m.a_name mark.Greater None ∷ [])) m.skip) (λ x. refl) s ts rest
+pub type_name_guards : (s : List Symbol) (ts rest : List Located) → Begins (t.sign mark.Colon) ts rest → run (m.after_type_name ∷ s) ts ≡ run (m.named ∷ s) rest
+type_name_guards s ts rest = sign_taken m.after_type_name mark.Colon (m.named ∷ []) (λ x. on_sign mark.Less x (m.take (m.name ∷ m.further m.a_name mark.Greater None ∷ [])) m.skip) (λ x. refl) s ts rest
 
-pub type_name_plain : (s : List Symbol) (ts : List Located) → LacksSign mark.Colon ts → run (m.behind_type_name ∷ s) ts ≡ run (m.enclosed m.a_name mark.Less mark.Greater None ∷ s) ts
+pub type_name_plain : (s : List Symbol) (ts : List Located) → LacksSign mark.Colon ts → run (m.after_type_name ∷ s) ts ≡ run (m.enclosed m.a_name mark.Less mark.Greater None ∷ s) ts
 type_name_plain s [] lacks = refl
 type_name_plain s (x ∷ xs) lacks = rw lacks refl
 
 pub ty_word : (w : Word) (xs : List Symbol) (s : List Symbol) (ts rest : List Located) → m.start_ty (t.keyword w) ≡ m.take xs → Begins (t.keyword w) ts rest → run (m.thing m.a_ty ∷ s) ts ≡ run (xs ++ s) rest
 ty_word w xs s ts rest is b = rw b.is (rw is refl)
 
-pub ty_named : (text : List ℕ) (s : List Symbol) (ts rest : List Located) → Begins (t.name text) ts rest → run (m.thing m.a_ty ∷ s) ts ≡ run (m.name ∷ m.behind_type_name ∷ s) ts
+pub ty_named : (text : List ℕ) (s : List Symbol) (ts rest : List Located) → Begins (t.name text) ts rest → run (m.thing m.a_ty ∷ s) ts ≡ run (m.name ∷ m.after_type_name ∷ s) ts
 ty_named text s ts rest b = rw b.is refl
 
 -- a bound that nothing was taken from

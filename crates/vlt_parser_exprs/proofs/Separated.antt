@@ -27,14 +27,14 @@ GoesOn {X} spell closing start items here =
     (x : X) (xs : List X) (rest : List Token) → here ≡ spell x (further_then spell closing xs rest) → start ≡ listed_then spell closing (items ++ x ∷ xs) rest
 
 -- one more thing and a comma were read
-pub goes_on : {X : Type 0} (spell : X → List Token → List Token) (closing : Mark) (start : List Token) (all items : List X) (here behind next : List Token) (item : X)
-    → all ≡ items ++ item ∷ [] → GoesOn spell closing start items here → here ≡ spell item behind → behind ≡ sign Comma ∷ next → GoesOn spell closing start all next
-goes_on spell closing start all items here behind next item grown before is_item is_comma x xs rest is =
+pub goes_on : {X : Type 0} (spell : X → List Token → List Token) (closing : Mark) (start : List Token) (all items : List X) (here following next : List Token) (item : X)
+    → all ≡ items ++ item ∷ [] → GoesOn spell closing start items here → here ≡ spell item following → following ≡ sign Comma ∷ next → GoesOn spell closing start all next
+goes_on spell closing start all items here following next item grown before is_item is_comma x xs rest is =
     before item (x ∷ xs) rest (is_item ∙ ap (λ ts. spell item ts) (is_comma ∙ ap (λ ts. sign Comma ∷ ts) is))
     ∙ ap (λ ys. listed_then spell closing ys rest) (sym (append_assoc items (item ∷ []) (x ∷ xs)) ∙ ap (λ ys. ys ++ x ∷ xs) (sym grown))
 
 -- the last thing and the closing sign were read
-pub closed : {X : Type 0} (spell : X → List Token → List Token) (closing : Mark) (start : List Token) (all items : List X) (here behind rest : List Token) (item : X)
-    → all ≡ items ++ item ∷ [] → GoesOn spell closing start items here → here ≡ spell item behind → behind ≡ sign closing ∷ rest → start ≡ listed_then spell closing all rest
-closed spell closing start all items here behind rest item grown before is_item is_closing =
+pub closed : {X : Type 0} (spell : X → List Token → List Token) (closing : Mark) (start : List Token) (all items : List X) (here following rest : List Token) (item : X)
+    → all ≡ items ++ item ∷ [] → GoesOn spell closing start items here → here ≡ spell item following → following ≡ sign closing ∷ rest → start ≡ listed_then spell closing all rest
+closed spell closing start all items here following rest item grown before is_item is_closing =
     before item [] rest (is_item ∙ ap (λ ts. spell item ts) is_closing) ∙ ap (λ ys. listed_then spell closing ys rest) (sym grown)

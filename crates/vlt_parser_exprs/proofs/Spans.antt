@@ -17,7 +17,7 @@ to_of [] i d none = none
 to_of (x ∷ xs) zero d none = refl
 to_of (x ∷ xs) (suc i) d none = to_of xs i d none
 
--- from the first byte of a token up to behind another
+-- from the first byte of a token up to after another
 pub span_is : (tokens : List CodeToken) (i j : ℕ) (d : CodeToken) → d.at.from ≡ 0 → d.at.to ≡ 0
     → (let r : Span = record { from = (slice_index_or tokens i d).at.from; to = (slice_index_or tokens (j - 1) d).at.to } in r ≡ spans tokens i j)
 span_is tokens i j d none also =

@@ -91,7 +91,7 @@ Turns before after next tokens at (Err e) = (s : List Symbol) → Fails (run (be
 abbrev pub Follows : {A : Type 0} → List Symbol → (A → ℕ) → List CodeToken → ℕ → Result A ParseError → Type 0
 Follows symbols next tokens at r = Turns symbols (λ x. []) next tokens at r
 
--- what is left of a limit behind so many things
+-- what is left of a limit after so many things
 abbrev pub left_of : Option Most → ℕ → Option Left
 left_of None n = None
 left_of (Some most) n = Some (record { limit = most.limit; more = most.count - n })

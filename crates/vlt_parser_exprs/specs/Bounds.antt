@@ -1,4 +1,4 @@
--- What an entry with a bound has behind its opening parenthesis.
+-- What an entry with a bound has after its opening parenthesis.
 use Rattle.std.specs.Prelude.{List, ◌∷◌}
 use Rattle.vlt_lexer.specs.declared.token.Mark.TheVariants as mark
 use Rattle.vlt_syntax.specs.Tokens.{Token, sign}

@@ -10,13 +10,13 @@ use Rattle.vlt_parser_exprs.specs.Reading.{tokens_from, Stands, Moves, Stays}
 use Rattle.vlt_parser_exprs.specs.Ahead.{lexemes_from, Begins, BeginsWith, BeginsOperator, Follows}
 use Rattle.vlt_parser_exprs.specs.declared.error.ParseError.{ParseError}
 
--- The thing, as it is viewed, is spelled by the tokens from the position up to the one behind it.
+-- The thing, as it is viewed, is spelled by the tokens from the position up to the one after it.
 abbrev pub Spells : {A X : Type 0} → (A → X) → (X → List Token → List Token) → List CodeToken → ℕ → Result (A × ℕ) ParseError → Type 0
 Spells view spell tokens at r = IfOk r (λ x. tokens_from tokens at ≡ spell (view x.0) (tokens_from tokens x.1))
 
 -- the same with one token before the position
-abbrev pub SpellsBehind : {A X : Type 0} → Token → (A → X) → (X → List Token → List Token) → List CodeToken → ℕ → Result (A × ℕ) ParseError → Type 0
-SpellsBehind before view spell tokens at r = IfOk r (λ x. before ∷ tokens_from tokens at ≡ spell (view x.0) (tokens_from tokens x.1))
+abbrev pub SpellsAfter : {A X : Type 0} → Token → (A → X) → (X → List Token → List Token) → List CodeToken → ℕ → Result (A × ℕ) ParseError → Type 0
+SpellsAfter before view spell tokens at r = IfOk r (λ x. before ∷ tokens_from tokens at ≡ spell (view x.0) (tokens_from tokens x.1))
 
 -- it stands where these tokens do, and so do its parts
 abbrev pub Lies : {A X : Type 0} → (A → X) → (X → Placing X) → List CodeToken → ℕ → Result (A × ℕ) ParseError → Type 0
@@ -44,7 +44,7 @@ Takes symbols tokens at r = Follows symbols (λ x. x.1) tokens at r
 
 -- ---- what comes
 
--- this token stands at the position, with the other position behind it
+-- this token stands at the position, with the other position after it
 abbrev pub Comes : Token → List CodeToken → ℕ → ℕ → Type 0
 Comes t tokens at next = Begins t (lexemes_from tokens at) (lexemes_from tokens next)
 

@@ -18,12 +18,12 @@ spans tokens = span_in (lexemes tokens)
 abbrev pub Stands : {X : Type 0} → (X → Placing X) → List CodeToken → ℕ → X → ℕ → Type 0
 Stands place tokens at x next = place x (spans tokens) at ≡ (x, next)
 
--- a position behind another, within the list
+-- a position after another, within the list
 pub record Moves {X : Type 0} (xs : List X) (at next : ℕ) : Type 0 where
   pub later : at < next
   pub within : next ≤ length xs
 
--- a position at another or behind it, within the list
+-- a position at another or after it, within the list
 pub record Stays {X : Type 0} (xs : List X) (at next : ℕ) : Type 0 where
   pub later : at ≤ next
   pub within : next ≤ length xs

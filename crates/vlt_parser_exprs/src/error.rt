@@ -9,7 +9,7 @@ pub enum ParseError {
     /// No tree goes on with the token whose first byte this is.
     #[error("no text goes on with this token")]
     Unexpected(u32),
-    /// Some tree goes on behind the last token.
+    /// Some tree goes on after the last token.
     #[error("the text ends too soon")]
     EndOfText,
     /// There is more of something than the limit of this number allows.

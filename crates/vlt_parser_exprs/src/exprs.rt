@@ -17,7 +17,7 @@ ghost use Rattle.vlt_parser_exprs.specs.Promises.{Advances, Holds, Lies, Operato
 
 use crate::error::ParseError;
 use crate::lists::Part;
-use crate::tokens::{behind_sign, kind, name, next_sign, sign, span, unexpected};
+use crate::tokens::{after_sign, kind, name, next_sign, sign, span, unexpected};
 use std::alloc::Global;
 use vlt_base::{Boxed, DEPTH, Span, limit};
 use vlt_lexer::{Mark, Token, TokenKind, Word};
@@ -121,11 +121,11 @@ fn variable(alloc: Global, tokens: &[Token<'_>], at: usize) -> Result<(Expr, usi
     ensures depth { IfOk result (λ x. depth_of (expr_of x.0) ≡ 1) }
     ensures moves { Advances tokens.now at result }
     ensures takes { (fs : List automaton.Pending) → Turns (automaton.name ∷
-        automaton.behind_variable 1 fs ∷ []) (λ x. automaton.behind_operand 1 fs ∷ []) (λ x. x.1)
+        automaton.after_variable 1 fs ∷ []) (λ x. automaton.after_operand 1 fs ∷ []) (λ x. x.1)
         tokens.now at result }
 {
     let (base, next) = name(alloc, tokens, at)?;
-    match behind_sign(tokens, next, Mark::Dot) {
+    match after_sign(tokens, next, Mark::Dot) {
         Some(next) => {
             let (field, next) = name(alloc, tokens, next)?;
             Ok((Expr::Field { base, field }, next))
@@ -153,7 +153,7 @@ fn primary(
     ensures within { IfOk result (λ x. (1 ≤ x.0.depth) × (x.0.depth ≤ room)) }
     ensures moves { Advances tokens.now at result }
     ensures takes { (fs : List automaton.Pending) → Turns (automaton.operand room fs ∷
-        []) (λ x. automaton.behind_operand x.0.depth fs ∷ []) (λ x. x.1) tokens.now at result }
+        []) (λ x. automaton.after_operand x.0.depth fs ∷ []) (λ x. x.1) tokens.now at result }
 {
     let (expr, next) = match kind(tokens, at) {
         Some(TokenKind::Number(value)) => (Expr::Number(value, span(tokens, at, at + 1)), at + 1),
@@ -167,7 +167,7 @@ fn primary(
     Ok((Deep { expr, depth: 1 }, next))
 }
 
-/// An expression in parentheses, behind the first one.
+/// An expression in parentheses, after the first one.
 #[tactic(auto, using(crate::proofs::Expressions::group_opens, crate::proofs::Expressions::group_full, crate::proofs::Expressions::group_closes, crate::proofs::Expressions::group_stays_open))]
 #[cycle(expression)]
 fn group(
@@ -178,7 +178,7 @@ fn group(
     room: usize,
 ) -> Result<(Deep, usize), ParseError>
     requires room { 1 ≤ room }
-    requires behind { Moves tokens.now from at }
+    requires following { Moves tokens.now from at }
     requires one { at ≡ from + 1 }
     requires opens { Begins (a_sign OpenParen) (lexemes_from tokens.now from)
         (lexemes_from tokens.now at) }
@@ -190,7 +190,7 @@ fn group(
     ensures within { IfOk result (λ x. (1 ≤ x.0.depth) × (x.0.depth ≤ room)) }
     ensures moves { Advances tokens.now at result }
     ensures takes { (fs : List automaton.Pending) → Turns (automaton.operand room fs ∷
-        []) (λ x. automaton.behind_operand x.0.depth fs ∷ []) (λ x. x.1) tokens.now from result }
+        []) (λ x. automaton.after_operand x.0.depth fs ∷ []) (λ x. x.1) tokens.now from result }
 {
     let inside = deeper(1, room)?;
     let (inner, next) = expression(alloc, tokens, at, LEAST, inside)?;
@@ -225,7 +225,7 @@ fn unary(
     ensures within { IfOk result (λ x. (1 ≤ x.0.depth) × (x.0.depth ≤ room)) }
     ensures moves { Advances tokens.now at result }
     ensures takes { (fs : List automaton.Pending) → Turns (automaton.operand room fs ∷
-        []) (λ x. automaton.behind_operand x.0.depth fs ∷ []) (λ x. x.1) tokens.now at result }
+        []) (λ x. automaton.after_operand x.0.depth fs ∷ []) (λ x. x.1) tokens.now at result }
 {
     let Some(op) = prefix(mark) else {
         return Err(unexpected(tokens, at));
@@ -280,12 +280,12 @@ fn expression(
     let (mut first, mut here) = primary(alloc, tokens, at, room)?;
     while let Some(next) = operator(tokens, here, least) {
         let inside = deeper(first.depth, room)?;
-        let (second, behind) = expression(alloc, tokens, here + 1, next.level + 1, inside)?;
+        let (second, following) = expression(alloc, tokens, here + 1, next.level + 1, inside)?;
         let depth = first.depth.max(second.depth) + 1;
-        let both = span(tokens, at, behind);
+        let both = span(tokens, at, following);
         let expr = binary(alloc, next.op, first.expr, second.expr, both)?;
         first = Deep { expr, depth };
-        here = behind;
+        here = following;
     }
     Ok((first, here))
 }

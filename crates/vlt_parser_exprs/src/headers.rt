@@ -7,7 +7,7 @@ ghost use Rattle.vlt_syntax.specs.Grammar.{AtMost, IsCase, language};
 ghost use Rattle.vlt_syntax.specs.Places.{case_at, enclosed_at, header_key_at};
 ghost use Rattle.vlt_syntax.specs.View.{header_key_of, case_of};
 ghost use Rattle.vlt_automaton.specs.Language as automaton;
-ghost use Rattle.vlt_parser_exprs.specs.Promises.{Advances, Holds, Lies, MayAdvance, Spells, Takes};
+ghost use Rattle.vlt_parser_exprs.specs.Promises.{Holds, Lies, MayAdvance, Spells, Takes};
 
 use crate::error::ParseError;
 use crate::lists::{Part, bound, enclosed};

@@ -1,4 +1,4 @@
-//! Parts of the parser: from a token's position a list, type, expression, entry or case, and the position behind.
+//! Parts of the parser: from a token's position a list, type, expression, entry or case, and the position after.
 //! Read `specs/Promises.antt` first.
 //! Used by: `vlt_parser_simple`, `vlt_parser_stmts` and `vlt_parser`.
 #![tactic(auto)]

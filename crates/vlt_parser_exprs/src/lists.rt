@@ -14,7 +14,7 @@ ghost use Rattle.vlt_parser_exprs.specs.Ahead.{left_of, IsFull};
 ghost use Rattle.vlt_parser_exprs.specs.Promises.{Advances, Holds, Lies, MayAdvance, Spells, Takes};
 
 use crate::error::ParseError;
-use crate::tokens::{behind_sign, name, sign};
+use crate::tokens::{after_sign, name, sign};
 use std::alloc::Global;
 use vlt_base::{Items, limit};
 use vlt_lexer::{Mark, Token};
@@ -115,12 +115,12 @@ pub fn some_listed<T: Part>(
     let mut items = Items::new(alloc);
     let mut here = at;
     loop {
-        let (item, behind) = T::part(alloc, tokens, here)?;
+        let (item, following) = T::part(alloc, tokens, here)?;
         items.push(item)?;
-        if let Some(end) = behind_sign(tokens, behind, closing) {
+        if let Some(end) = after_sign(tokens, following, closing) {
             return Ok((items, end));
         }
-        let next = sign(tokens, behind, Mark::Comma)?;
+        let next = sign(tokens, following, Mark::Comma)?;
         allow_one_more(most, items.len())?;
         here = next;
     }
@@ -144,7 +144,7 @@ pub fn listed<T: Part>(
     ensures takes { Takes (automaton.listed T.thing closing (left_of most 0) ∷ [])
         tokens.now at result }
 {
-    if let Some(end) = behind_sign(tokens, at, closing) {
+    if let Some(end) = after_sign(tokens, at, closing) {
         return Ok((Items::new(alloc), end));
     }
     some_listed(alloc, tokens, at, closing, most)
@@ -171,7 +171,7 @@ pub fn enclosed<T: Part>(
     ensures takes { Takes (automaton.enclosed T.thing opening closing (left_of most 0) ∷ [])
         tokens.now at result }
 {
-    match behind_sign(tokens, at, opening) {
+    match after_sign(tokens, at, opening) {
         Some(inside) => some_listed(alloc, tokens, inside, closing, most),
         None => Ok((Items::new(alloc), at)),
     }

@@ -14,7 +14,7 @@ ghost use Rattle.vlt_parser_exprs.specs.Reading.{Stands, tokens_from};
 
 use crate::error::ParseError;
 use crate::lists::Part;
-use crate::tokens::{behind_sign, kind, name, sign, span};
+use crate::tokens::{after_sign, kind, name, sign, span};
 use crate::types::{key_states, states, ty};
 use std::alloc::Global;
 use vlt_lexer::{Mark, Token, TokenKind, Word};
@@ -52,7 +52,7 @@ struct StateBound {
     state: Name,
 }
 
-/// A bound, behind its opening parenthesis.
+/// A bound, after its opening parenthesis.
 fn state_bound(
     alloc: Global,
     tokens: &[Token<'_>],
@@ -83,10 +83,10 @@ fn held_entry(alloc: Global, tokens: &[Token<'_>], at: usize) -> Result<(Entry, 
     ensures takes { Takes (automaton.name ∷ automaton.entry_states ∷ []) tokens.now at result }
 {
     let (key, next) = name(alloc, tokens, at)?;
-    let Some(next) = behind_sign(tokens, next, Mark::At) else {
+    let Some(next) = after_sign(tokens, next, Mark::At) else {
         return Ok((Entry::Held(KeyStates { key, states: None }), next));
     };
-    if let Some(inside) = behind_sign(tokens, next, Mark::OpenParen) {
+    if let Some(inside) = after_sign(tokens, next, Mark::OpenParen) {
         let (StateBound { variable, state }, next) = state_bound(alloc, tokens, inside)?;
         return Ok((
             Entry::Bound {
@@ -98,7 +98,7 @@ fn held_entry(alloc: Global, tokens: &[Token<'_>], at: usize) -> Result<(Entry, 
         ));
     }
     let (before, next) = states(alloc, tokens, next)?;
-    match behind_sign(tokens, next, Mark::Arrow) {
+    match after_sign(tokens, next, Mark::Arrow) {
         Some(next) => {
             let (after, next) = states(alloc, tokens, next)?;
             Ok((Entry::Changed { key, before, after }, next))

@@ -1,5 +1,5 @@
 //! Single tokens. Each part of the parser takes the position of a token, counted from 0, and answers what it
-//! read with the position behind it.
+//! read with the position after it.
 
 ghost use Rattle.std.specs.Prelude.{◌≡◌, ◌∷◌, [], ◌+◌, ℕ, List, IfOk, IfErr, IfSome, IfNone, IsTrue, IsFalse};
 ghost use Rattle.vlt_syntax.specs.Tokens.{token_from, sign as a_sign, keyword as a_keyword};
@@ -82,8 +82,8 @@ fn is_sign(tokens: &[Token<'_>], at: usize, mark: Mark) -> bool
     }
 }
 
-/// The position behind a sign, if it comes next.
-pub fn behind_sign(tokens: &[Token<'_>], at: usize, mark: Mark) -> Option<usize>
+/// The position after a sign, if it comes next.
+pub fn after_sign(tokens: &[Token<'_>], at: usize, mark: Mark) -> Option<usize>
     ensures spelled { IfSome result (λ next.
         tokens_from tokens.now at ≡ a_sign mark ∷ tokens_from tokens.now next) }
     ensures one { IfSome result (λ next. next ≡ at + 1) }
@@ -98,7 +98,7 @@ pub fn behind_sign(tokens: &[Token<'_>], at: usize, mark: Mark) -> Option<usize>
     }
 }
 
-/// The position behind a sign.
+/// The position after a sign.
 pub fn sign(tokens: &[Token<'_>], at: usize, mark: Mark) -> Result<usize, ParseError>
     ensures spelled { IfOk result (λ next.
         tokens_from tokens.now at ≡ a_sign mark ∷ tokens_from tokens.now next) }
@@ -109,7 +109,7 @@ pub fn sign(tokens: &[Token<'_>], at: usize, mark: Mark) -> Result<usize, ParseE
     ensures lacks { IfErr result (λ e.
         (e ≡ refusal (lexemes_from tokens.now at)) × LacksSign mark (lexemes_from tokens.now at)) }
 {
-    match behind_sign(tokens, at, mark) {
+    match after_sign(tokens, at, mark) {
         Some(next) => Ok(next),
         None => Err(unexpected(tokens, at)),
     }
@@ -129,7 +129,7 @@ fn is_keyword(tokens: &[Token<'_>], at: usize, word: Word) -> bool
     }
 }
 
-/// The position behind a keyword.
+/// The position after a keyword.
 pub fn keyword(tokens: &[Token<'_>], at: usize, word: Word) -> Result<usize, ParseError>
     ensures spelled { IfOk result (λ next.
         tokens_from tokens.now at ≡ a_keyword word ∷ tokens_from tokens.now next) }

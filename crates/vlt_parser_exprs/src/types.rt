@@ -10,16 +10,16 @@ ghost use Rattle.vlt_syntax.specs.Places.{key_states_at, marked_at, name_at, nam
 ghost use Rattle.vlt_syntax.specs.View.{name_of, states_of, key_states_of, named_of, ty_of};
 ghost use Rattle.vlt_automaton.specs.Language as automaton;
 ghost use Rattle.vlt_parser_exprs.specs.Reading.{Moves};
-ghost use Rattle.vlt_parser_exprs.specs.Promises.{Advances, Holds, Lies, MayAdvance, MayBe, Spells, SpellsBehind, Takes};
+ghost use Rattle.vlt_parser_exprs.specs.Promises.{Advances, Holds, Lies, MayAdvance, MayBe, Spells, SpellsAfter, Takes};
 
 use crate::error::ParseError;
 use crate::lists::{Part, enclosed, some_listed};
-use crate::tokens::{behind_sign, keyword, kind, name, sign, span, unexpected};
+use crate::tokens::{after_sign, keyword, kind, name, sign, span, unexpected};
 use std::alloc::Global;
 use vlt_lexer::{Mark, Token, TokenKind, Word};
 use vlt_syntax::{KeyStates, Name, Named, States, Ty};
 
-/// A sign and the name behind it, if the sign comes next.
+/// A sign and the name after it, if the sign comes next.
 #[tactic(auto, using(crate::proofs::Runs::marked_some, crate::proofs::Runs::marked_none))]
 pub fn marked_name(
     alloc: Global,
@@ -33,7 +33,7 @@ pub fn marked_name(
     ensures moves { MayAdvance tokens.now at result }
     ensures takes { Takes (automaton.marked_name mark ∷ []) tokens.now at result }
 {
-    match behind_sign(tokens, at, mark) {
+    match after_sign(tokens, at, mark) {
         Some(next) => {
             let (found, next) = name(alloc, tokens, next)?;
             Ok((Some(found), next))
@@ -51,7 +51,7 @@ pub fn states(alloc: Global, tokens: &[Token<'_>], at: usize) -> Result<(States,
     ensures moves { Advances tokens.now at result }
     ensures takes { Takes (automaton.states ∷ []) tokens.now at result }
 {
-    match behind_sign(tokens, at, Mark::OpenBrace) {
+    match after_sign(tokens, at, Mark::OpenBrace) {
         Some(inside) => {
             let (names, next) = some_listed(alloc, tokens, inside, Mark::CloseBrace, None)?;
             Ok((States::Several(names, span(tokens, at, next)), next))
@@ -77,7 +77,7 @@ pub fn at_states(
     ensures moves { MayAdvance tokens.now at result }
     ensures takes { Takes (automaton.at_states ∷ []) tokens.now at result }
 {
-    match behind_sign(tokens, at, Mark::At) {
+    match after_sign(tokens, at, Mark::At) {
         Some(next) => {
             let (found, next) = states(alloc, tokens, next)?;
             Ok((Some(found), next))
@@ -139,7 +139,7 @@ pub fn named(alloc: Global, tokens: &[Token<'_>], at: usize) -> Result<(Named, u
     Ok((Named { name, keys }, next))
 }
 
-/// A tracked type, behind its word.
+/// A tracked type, after its word.
 #[tactic(auto, using(crate::proofs::Runs::tracked_keyed, crate::proofs::Runs::tracked_plain))]
 fn tracked(
     alloc: Global,
@@ -147,15 +147,15 @@ fn tracked(
     at: usize,
     from: usize,
 ) -> Result<(Ty, usize), ParseError>
-    requires behind { Moves tokens.now from at }
+    requires following { Moves tokens.now from at }
     requires one { at ≡ from + 1 }
-    ensures spelled { SpellsBehind (a_keyword Tracked) ty_of ty_then tokens.now at result }
+    ensures spelled { SpellsAfter (a_keyword Tracked) ty_of ty_then tokens.now at result }
     ensures placed { Lies ty_of ty_at tokens.now from result }
     ensures right { Holds ty_of IsTy result }
     ensures moves { Advances tokens.now at result }
-    ensures takes { Takes (automaton.behind_tracked ∷ []) tokens.now at result }
+    ensures takes { Takes (automaton.after_tracked ∷ []) tokens.now at result }
 {
-    if let Some(next) = behind_sign(tokens, at, Mark::OpenParen) {
+    if let Some(next) = after_sign(tokens, at, Mark::OpenParen) {
         let (key, next) = name(alloc, tokens, next)?;
         let next = sign(tokens, next, Mark::CloseParen)?;
         let (named, next) = named(alloc, tokens, next)?;
@@ -175,11 +175,11 @@ fn named_ty(alloc: Global, tokens: &[Token<'_>], at: usize) -> Result<(Ty, usize
     ensures placed { Lies ty_of ty_at tokens.now at result }
     ensures right { Holds ty_of IsTy result }
     ensures moves { Advances tokens.now at result }
-    ensures takes { Takes (automaton.name ∷ automaton.behind_type_name ∷ [])
+    ensures takes { Takes (automaton.name ∷ automaton.after_type_name ∷ [])
         tokens.now at result }
 {
     let (first, next) = name(alloc, tokens, at)?;
-    if let Some(next) = behind_sign(tokens, next, Mark::Colon) {
+    if let Some(next) = after_sign(tokens, next, Mark::Colon) {
         let (named, next) = named(alloc, tokens, next)?;
         return Ok((Ty::Guarded { key: first, named }, next));
     }

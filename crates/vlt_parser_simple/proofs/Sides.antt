@@ -4,7 +4,7 @@ use Rattle.vlt_lexer.specs.declared.token.Word.{Word}
 use Rattle.vlt_lexer.specs.declared.token.Mark.TheVariants as mark
 use Rattle.vlt_syntax.specs.Tokens as t
 use Rattle.vlt_automaton.specs.Language as m
-use Rattle.vlt_automaton.specs.Language.{Symbol, Reaction, Located, run, with_behind, next_after, go_on_with}
+use Rattle.vlt_automaton.specs.Language.{Symbol, Reaction, Located, run, with_after, next_after, go_on_with}
 use Rattle.vlt_parser_exprs.proofs.Runs.{sign_taken, sign_skipped}
 use Rattle.vlt_parser_exprs.specs.Ahead.{Begins, LacksSign}
 
@@ -21,9 +21,9 @@ right_build text s ts rest b = rw b.is refl
 pub right_word : (w : Word) (xs s : List Symbol) (ts rest : List Located) → m.start_right (t.keyword w) ≡ m.take xs → Begins (t.keyword w) ts rest → run (m.right ∷ s) ts ≡ run (xs ++ s) rest
 right_word w xs s ts rest is b = rw b.is (rw is refl)
 
-pub right_call : (text : List ℕ) (s : List Symbol) (ts rest behind : List Located) → Begins (t.name text) ts rest → Begins (t.sign mark.OpenParen) rest behind
+pub right_call : (text : List ℕ) (s : List Symbol) (ts rest following : List Located) → Begins (t.name text) ts rest → Begins (t.sign mark.OpenParen) rest following
     → run (m.right ∷ s) ts ≡ run (m.name ∷ m.sign mark.OpenParen ∷ m.listed m.an_expr mark.CloseParen None ∷ s) ts
-right_call text s ts rest behind b paren = rw b.is (rw paren.is refl)
+right_call text s ts rest following b paren = rw b.is (rw paren.is refl)
 
 -- a variable that isn't called
 pub right_variable : (text : List ℕ) (s : List Symbol) (ts rest : List Located) → Begins (t.name text) ts rest → LacksSign mark.OpenParen rest
@@ -31,14 +31,14 @@ pub right_variable : (text : List ℕ) (s : List Symbol) (ts rest : List Located
 right_variable text s ts [] b lacks = rw b.is refl
 right_variable text s ts (x ∷ xs) b lacks = rw b.is (rw lacks (by_dot (m.is_sign mark.Dot x.token)))
   where
-    by_reaction : (r : Reaction) → next_after (with_behind r (m.end_expr ∷ [])) s (λ u. m.step_behind 0 s x.token) ≡ next_after r (m.end_expr ∷ s) (λ u. m.step_behind 1 (m.end_expr ∷ s) x.token)
+    by_reaction : (r : Reaction) → next_after (with_after r (m.end_expr ∷ [])) s (λ u. m.step_after 0 s x.token) ≡ next_after r (m.end_expr ∷ s) (λ u. m.step_after 1 (m.end_expr ∷ s) x.token)
     by_reaction (m.take ys) = ap m.to (append_assoc ys (m.end_expr ∷ []) s)
     by_reaction m.skip = refl
     by_reaction m.refuse = refl
     by_reaction (m.exceed n) = refl
 
-    by_dot : (b : Bool) → go_on_with (m.run_over xs) x.at (next_after (if b then m.take (m.name ∷ m.operations 1 m.whole_expr ∷ m.end_expr ∷ []) else with_behind (m.react_operations 1 m.whole_expr x.token) (m.end_expr ∷ [])) s (λ u. m.step_behind 0 s x.token))
-        ≡ go_on_with (m.run_over xs) x.at (next_after (if b then m.take (m.name ∷ m.operations 1 m.whole_expr ∷ []) else m.react_operations 1 m.whole_expr x.token) (m.end_expr ∷ s) (λ u. m.step_behind 1 (m.end_expr ∷ s) x.token))
+    by_dot : (b : Bool) → go_on_with (m.run_over xs) x.at (next_after (if b then m.take (m.name ∷ m.operations 1 m.whole_expr ∷ m.end_expr ∷ []) else with_after (m.react_operations 1 m.whole_expr x.token) (m.end_expr ∷ [])) s (λ u. m.step_after 0 s x.token))
+        ≡ go_on_with (m.run_over xs) x.at (next_after (if b then m.take (m.name ∷ m.operations 1 m.whole_expr ∷ []) else m.react_operations 1 m.whole_expr x.token) (m.end_expr ∷ s) (λ u. m.step_after 1 (m.end_expr ∷ s) x.token))
     by_dot true = refl
     by_dot false = ap (go_on_with (m.run_over xs) x.at) (by_reaction (m.react_operations 1 m.whole_expr x.token))
 

@@ -12,14 +12,14 @@ ghost use Rattle.vlt_syntax.specs.View.{name_of, build_of, call_of, right_of, re
 ghost use Rattle.vlt_automaton.specs.Language as automaton;
 ghost use Rattle.vlt_parser_exprs.specs.Reading.{tokens_from, Moves};
 ghost use Rattle.vlt_parser_exprs.specs.Ahead.{lexemes_from, Begins, BeginsWith, LacksSign, Follows};
-ghost use Rattle.vlt_parser_exprs.specs.Promises.{Advances, Holds, Lies, MayAdvance, Spells, SpellsBehind, Takes};
+ghost use Rattle.vlt_parser_exprs.specs.Promises.{Advances, Holds, Lies, MayAdvance, Spells, SpellsAfter, Takes};
 
 use std::alloc::Global;
 use vlt_lexer::{Mark, Token, TokenKind, Word};
 use vlt_parser_exprs::ParseError;
 use vlt_parser_exprs::exprs::expr;
 use vlt_parser_exprs::lists::{enclosed, listed};
-use vlt_parser_exprs::tokens::{behind_sign, case_name, keyword, kind, name, sign, span};
+use vlt_parser_exprs::tokens::{after_sign, case_name, keyword, kind, name, sign, span};
 use vlt_parser_exprs::types::named;
 use vlt_syntax::{Build, Call, Name, Returned, Right};
 
@@ -73,7 +73,7 @@ fn owner(
     ensures moves { MayAdvance tokens.now at result }
     ensures takes { Takes (automaton.owner ∷ []) tokens.now at result }
 {
-    match behind_sign(tokens, at, Mark::OpenParen) {
+    match after_sign(tokens, at, Mark::OpenParen) {
         Some(next) => {
             let (found, next) = name(alloc, tokens, next)?;
             let next = sign(tokens, next, Mark::CloseParen)?;
@@ -83,16 +83,16 @@ fn owner(
     }
 }
 
-/// A `new`, behind its word.
+/// A `new`, after its word.
 fn make(
     alloc: Global,
     tokens: &[Token<'_>],
     at: usize,
     from: usize,
 ) -> Result<(Right, usize), ParseError>
-    requires behind { Moves tokens.now from at }
+    requires following { Moves tokens.now from at }
     requires one { at ≡ from + 1 }
-    ensures spelled { SpellsBehind (a_keyword New) right_of right_then tokens.now at result }
+    ensures spelled { SpellsAfter (a_keyword New) right_of right_then tokens.now at result }
     ensures placed { Lies right_of right_at tokens.now from result }
     ensures right { Holds right_of (IsRight language) result }
     ensures moves { Advances tokens.now at result }
@@ -115,16 +115,16 @@ fn make(
     ))
 }
 
-/// An adoption, behind its word.
+/// An adoption, after its word.
 fn adopt(
     alloc: Global,
     tokens: &[Token<'_>],
     at: usize,
     from: usize,
 ) -> Result<(Right, usize), ParseError>
-    requires behind { Moves tokens.now from at }
+    requires following { Moves tokens.now from at }
     requires one { at ≡ from + 1 }
-    ensures spelled { SpellsBehind (a_keyword Adopt) right_of right_then tokens.now at result }
+    ensures spelled { SpellsAfter (a_keyword Adopt) right_of right_then tokens.now at result }
     ensures placed { Lies right_of right_at tokens.now from result }
     ensures right { Holds right_of (IsRight language) result }
     ensures moves { Advances tokens.now at result }
@@ -155,10 +155,10 @@ fn begins_call(tokens: &[Token<'_>], at: usize) -> bool
         LacksSign OpenParen (lexemes_from tokens.now (at + 1)) }
 {
     matches!(kind(tokens, at), Some(TokenKind::Name))
-        && behind_sign(tokens, at + 1, Mark::OpenParen).is_some()
+        && after_sign(tokens, at + 1, Mark::OpenParen).is_some()
 }
 
-/// The pair of parentheses behind `input` or `more`.
+/// The pair of parentheses after `input` or `more`.
 fn no_arguments(tokens: &[Token<'_>], at: usize) -> Result<usize, ParseError>
     ensures spelled { IfOk result (λ next. tokens_from tokens.now at ≡ a_sign OpenParen ∷
         a_sign CloseParen ∷ tokens_from tokens.now next) }

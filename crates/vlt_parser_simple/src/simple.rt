@@ -150,7 +150,7 @@ fn named_stmt(alloc: Global, tokens: &[Token<'_>], at: usize) -> Result<(Stmt, u
     ensures placed { Lies stmt_of stmt_at tokens.now at result }
     ensures right { Holds stmt_of IsSimple result }
     ensures moves { Advances tokens.now at result }
-    ensures takes { Takes (automaton.name ∷ automaton.behind_stmt_name ∷ [])
+    ensures takes { Takes (automaton.name ∷ automaton.after_stmt_name ∷ [])
         tokens.now at result }
 {
     match next_sign(tokens, at + 1) {

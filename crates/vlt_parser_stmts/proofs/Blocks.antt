@@ -7,7 +7,7 @@ use Rattle.vlt_lexer.specs.declared.token.Mark.TheVariants as mark
 use Rattle.vlt_syntax.specs.Tokens as t
 use Rattle.vlt_syntax.specs.Tokens.{Token}
 use Rattle.vlt_automaton.specs.Language as m
-use Rattle.vlt_automaton.specs.Language.{Symbol, Located, run, with_behind, go_on_with, on_sign}
+use Rattle.vlt_automaton.specs.Language.{Symbol, Located, run, with_after, go_on_with, on_sign}
 use Rattle.vlt_parser_exprs.specs.declared.error.ParseError.{ParseError}
 use Rattle.vlt_parser_exprs.specs.declared.error.ParseError.TheVariants.{Limit}
 use Rattle.vlt_parser_exprs.proofs.Runs.{is_skip, fails_with, begins, sign_taken, settled_followed, stmt_takes}
@@ -28,7 +28,7 @@ sign_takes sg x = by_sign (m.is_sign sg x)
     by_sign true = refl
     by_sign false = refl
 
-begins_if : (b : Bool) (xs : List Symbol) → (if b then m.take xs else m.refuse) ≡ with_behind (if b then m.take [] else m.refuse) xs
+begins_if : (b : Bool) (xs : List Symbol) → (if b then m.take xs else m.refuse) ≡ with_after (if b then m.take [] else m.refuse) xs
 begins_if true xs = refl
 begins_if false xs = refl
 
@@ -36,7 +36,7 @@ pub block_is : (room : ℕ) (s : List Symbol) (ts : List Located) → run (m.blo
 block_is room s ts = begins (m.block room) (m.sign mark.OpenBrace) (m.stmts (room - 1) ∷ []) refl refl (λ x. begins_if (m.is_sign mark.OpenBrace x) (m.stmts (room - 1) ∷ [])) (sign_takes mark.OpenBrace) s ts
 
 pub stmts_closed : (room : ℕ) (s : List Symbol) (ts rest : List Located) → Begins (t.sign mark.CloseBrace) ts rest → run (m.stmts room ∷ s) ts ≡ run s rest
-stmts_closed room s ts rest = sign_taken (m.stmts room) mark.CloseBrace [] (λ x. with_behind (m.start_stmt room x) (m.stmts room ∷ [])) (λ x. refl) s ts rest
+stmts_closed room s ts rest = sign_taken (m.stmts room) mark.CloseBrace [] (λ x. with_after (m.start_stmt room x) (m.stmts room ∷ [])) (λ x. refl) s ts rest
 
 pub stmts_one : (room : ℕ) (s : List Symbol) (ts : List Located) → LacksSign mark.CloseBrace ts → run (m.stmts room ∷ s) ts ≡ run (m.thing (m.a_stmt room) ∷ m.stmts room ∷ s) ts
 stmts_one room s [] lacks = refl
@@ -62,17 +62,17 @@ stmt_too_deep x room xs e s ts rest is full b = rw full.1 (fails_with (run (m.th
 pub stmt_simple : (x : Token) (room : ℕ) (s : List Symbol) (ts rest : List Located) → m.start_stmt room x ≡ m.start_simple x → Begins x ts rest → run (m.thing (m.a_stmt room) ∷ s) ts ≡ run (m.thing m.a_simple ∷ s) ts
 stmt_simple x room s ts rest is b = rw b.is (rw is refl)
 
-pub otherwise_some : (room : ℕ) (s : List Symbol) (ts rest : List Located) → Begins (t.keyword word.Else) ts rest → run (m.otherwise room ∷ s) ts ≡ run (m.behind_else room ∷ s) rest
+pub otherwise_some : (room : ℕ) (s : List Symbol) (ts rest : List Located) → Begins (t.keyword word.Else) ts rest → run (m.otherwise room ∷ s) ts ≡ run (m.following_else room ∷ s) rest
 otherwise_some room s ts rest b = rw b.is refl
 
 pub otherwise_none : (room : ℕ) (s : List Symbol) (ts : List Located) → LacksKeyword word.Else ts → run (m.otherwise room ∷ s) ts ≡ run s ts
 otherwise_none room s [] lacks = refl
 otherwise_none room s (x ∷ xs) lacks = rw lacks refl
 
-pub else_if : (room : ℕ) (s : List Symbol) (ts rest : List Located) → Begins (t.keyword word.If) ts rest → run (m.behind_else room ∷ s) ts ≡ run (m.thing (m.a_stmt (room - 1)) ∷ s) ts
+pub else_if : (room : ℕ) (s : List Symbol) (ts rest : List Located) → Begins (t.keyword word.If) ts rest → run (m.following_else room ∷ s) ts ≡ run (m.thing (m.a_stmt (room - 1)) ∷ s) ts
 else_if room s ts rest b = rw b.is refl
 
-pub else_block : (x : Token) (room : ℕ) (s : List Symbol) (ts rest : List Located) → m.is_keyword word.If x ≡ false → Begins x ts rest → run (m.behind_else room ∷ s) ts ≡ run (m.block room ∷ s) ts
+pub else_block : (x : Token) (room : ℕ) (s : List Symbol) (ts rest : List Located) → m.is_keyword word.If x ≡ false → Begins x ts rest → run (m.following_else room ∷ s) ts ≡ run (m.block room ∷ s) ts
 else_block x room s ts rest lacks b = rw b.is (rw lacks refl)
 
 pub arm_is : (room : ℕ) (s : List Symbol) (ts : List Located) → run (m.arm room ∷ s) ts ≡ run (m.keyword word.Case ∷ m.tick ∷ m.enclosed m.a_name mark.OpenParen mark.CloseParen None ∷ m.sign mark.Colon ∷ m.block room ∷ s) ts
@@ -80,7 +80,7 @@ arm_is room s ts = begins (m.arm room) (m.keyword word.Case) (m.tick ∷ m.enclo
     (λ x. begins_if (m.is_keyword word.Case x) (m.tick ∷ m.enclosed m.a_name mark.OpenParen mark.CloseParen None ∷ m.sign mark.Colon ∷ m.block room ∷ [])) (keyword_takes word.Case) s ts
 
 pub arms_closed : (room : ℕ) (s : List Symbol) (ts rest : List Located) → Begins (t.sign mark.CloseBrace) ts rest → run (m.arms room ∷ s) ts ≡ run s rest
-arms_closed room s ts rest = sign_taken (m.arms room) mark.CloseBrace [] (λ x. with_behind (m.start_arm room x) (m.arms room ∷ [])) (λ x. refl) s ts rest
+arms_closed room s ts rest = sign_taken (m.arms room) mark.CloseBrace [] (λ x. with_after (m.start_arm room x) (m.arms room ∷ [])) (λ x. refl) s ts rest
 
 pub arms_one : (room : ℕ) (s : List Symbol) (ts : List Located) → LacksSign mark.CloseBrace ts → run (m.arms room ∷ s) ts ≡ run (m.arm room ∷ m.arms room ∷ s) ts
 arms_one room s [] lacks = refl

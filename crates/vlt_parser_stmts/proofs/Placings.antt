@@ -43,9 +43,9 @@ arms_append tokens (y ∷ ys) x i j k e last =
     let more = arms_at (arms_made (ys ++ x ∷ [])) (spans tokens) first.1 in
     ap (λ z. (z, more.1)) (q.1 more.0) ∙ ap (λ r. (s.arm y.0 y.1 y.2 y.3 r.0, r.1)) rest
 
-pub while_stands : (tokens : List CodeToken) (at next behind end : ℕ) (e : s.Expr) (b : s.Block) (span : Span) → next ≡ at + 1 → Stands condition_at tokens next e behind → Stands block_at tokens behind b end → span ≡ spans tokens at end
+pub while_stands : (tokens : List CodeToken) (at next following end : ℕ) (e : s.Expr) (b : s.Block) (span : Span) → next ≡ at + 1 → Stands condition_at tokens next e following → Stands block_at tokens following b end → span ≡ spans tokens at end
     → Stands stmt_at tokens at (s.loop e b span) end
-while_stands tokens at next behind end e b span is condition body same =
+while_stands tokens at next following end e b span is condition body same =
     let sp = spans tokens in
     let two : at + 2 ≡ next + 1 = omega (arith, is) in
     ap (λ n. let y = expr_at e sp n in let r = block_at b sp (y.1 + 1) in (s.loop y.0 r.0 (sp at r.1), r.1)) two
@@ -53,9 +53,9 @@ while_stands tokens at next behind end e b span is condition body same =
     ∙ ap (λ r. (s.loop e r.0 (sp at r.1), r.1)) body
     ∙ ap (λ z. (s.loop e b z, end)) (sym same)
 
-pub if_stands : (tokens : List CodeToken) (at next behind last end : ℕ) (e : s.Expr) (b : s.Block) (o : s.Else) (span : Span) → next ≡ at + 1 → Stands condition_at tokens next e behind → Stands block_at tokens behind b last → Stands else_at tokens last o end → span ≡ spans tokens at end
+pub if_stands : (tokens : List CodeToken) (at next following last end : ℕ) (e : s.Expr) (b : s.Block) (o : s.Else) (span : Span) → next ≡ at + 1 → Stands condition_at tokens next e following → Stands block_at tokens following b last → Stands else_at tokens last o end → span ≡ spans tokens at end
     → Stands if_at tokens at (s.choice e b o span) end
-if_stands tokens at next behind last end e b o span is condition body other same =
+if_stands tokens at next following last end e b o span is condition body other same =
     let sp = spans tokens in
     let two : at + 2 ≡ next + 1 = omega (arith, is) in
     ap (λ n. let y = expr_at e sp n in let r = block_at b sp (y.1 + 1) in let q = else_at o sp r.1 in (s.choice y.0 r.0 q.0 (sp at q.1), q.1)) two

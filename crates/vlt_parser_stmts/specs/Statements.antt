@@ -20,7 +20,7 @@ switch_then x rest = keyword word.Switch ∷ sign mark.OpenParen ∷ name_then x
 abbrev pub case_then : Name → List Name → List Token → List Token
 case_then c vs rest = keyword word.Case ∷ case_name_then c (enclosed_then name_then mark.OpenParen mark.CloseParen vs (sign mark.Colon ∷ rest))
 
--- arms with the closing brace behind them
+-- arms with the closing brace after them
 abbrev pub rows_at : Arms → Placing Arms
 rows_at arms = arms_at arms ◂ 1
 

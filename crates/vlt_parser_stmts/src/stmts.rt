@@ -20,7 +20,7 @@ use vlt_base::{Boxed, DEPTH, Items};
 use vlt_lexer::{Mark, Token, TokenKind, Word};
 use vlt_parser_exprs::ParseError;
 use vlt_parser_exprs::lists::enclosed;
-use vlt_parser_exprs::tokens::{behind_sign, case_name, keyword, kind, name, sign, span};
+use vlt_parser_exprs::tokens::{after_sign, case_name, keyword, kind, name, sign, span};
 use vlt_parser_simple::simple::{condition, simple};
 use vlt_syntax::{Arm, Block, Else, If, Name, Stmt};
 
@@ -140,13 +140,13 @@ pub fn block(
     let mut stmts = Items::new(alloc);
     let mut here = inside;
     loop {
-        if let Some(end) = behind_sign(tokens, here, Mark::CloseBrace) {
+        if let Some(end) = after_sign(tokens, here, Mark::CloseBrace) {
             let at = span(tokens, at, end);
             return Ok((Block { stmts, at }, end));
         }
-        let (next, behind) = stmt(alloc, tokens, here, room - 1)?;
+        let (next, following) = stmt(alloc, tokens, here, room - 1)?;
         stmts.push(next)?;
-        here = behind;
+        here = following;
     }
 }
 
@@ -181,7 +181,7 @@ fn stmt(
     }
 }
 
-/// An `if`, which stands here or behind an `else`.
+/// An `if`, which stands here or after an `else`.
 #[tactic(auto, using(crate::proofs::Blocks::stmt_enters, crate::proofs::Blocks::stmt_too_deep))]
 #[cycle(statements)]
 fn if_stmt(
@@ -214,7 +214,7 @@ fn if_stmt(
     ))
 }
 
-/// What stands behind `else`, if that comes next.
+/// What stands after `else`, if that comes next.
 #[tactic(auto, using(crate::proofs::Blocks::otherwise_some, crate::proofs::Blocks::otherwise_none, crate::proofs::Blocks::else_if, crate::proofs::Blocks::else_block))]
 #[cycle(statements)]
 fn otherwise(
@@ -346,12 +346,12 @@ fn arms(
     let mut arms = Items::new(alloc);
     let mut here = at;
     loop {
-        let (next, behind) = arm(alloc, tokens, here, room)?;
+        let (next, following) = arm(alloc, tokens, here, room)?;
         arms.push(next)?;
-        if let Some(end) = behind_sign(tokens, behind, Mark::CloseBrace) {
+        if let Some(end) = after_sign(tokens, following, Mark::CloseBrace) {
             return Ok((arms, end));
         }
-        here = behind;
+        here = following;
     }
 }
 

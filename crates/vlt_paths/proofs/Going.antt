@@ -39,16 +39,16 @@ abbrev first_of : List Choice → ℕ
 first_of [] = 0
 first_of (c ∷ cs) = number_of c.pick
 
-abbrev behind : List Choice → List Choice
-behind [] = []
-behind (c ∷ cs) = cs
+abbrev following : List Choice → List Choice
+following [] = []
+following (c ∷ cs) = cs
 
 -- two readings of the same choices
 pub same_pick : (L es l : List Choice) (at : ℕ) (c d : Pick) → L ≡ choice at c ∷ es → L ≡ choice at d ∷ l → number_of c ≡ number_of d
 same_pick L es l at c d e f = ap first_of (sym e ∙ f)
 
 pub same_rest : (L es l : List Choice) (at : ℕ) (c d : Pick) → L ≡ choice at c ∷ es → L ≡ choice at d ∷ l → es ≡ l
-same_rest L es l at c d e f = ap behind (sym e ∙ f)
+same_rest L es l at c d e f = ap following (sym e ∙ f)
 
 some_choice : (L l : List Choice) (at : ℕ) (c : Pick) → L ≡ [] → L ≡ choice at c ∷ l → ⊥
 some_choice L l at c e f = let n : length L ≡ 0 = ap length e in let m : length L ≡ suc (length l) = ap length f in omega (arith, n, m)
@@ -116,7 +116,7 @@ module _ (P : Sought) (t : Tok) where
     fewer = (go_step at (map away_row left) v u p k).fewer;
   }
 
-  -- ---- behind rows, by a choice
+  -- ---- after rows, by a choice
 
   module _ (at : ℕ) (rs : List Row) (v m : State) (p : Passes P t at rs v m) where
     -- the choices of a path that came to the end of the rows
@@ -517,8 +517,8 @@ module _ (P : Sought) (t : Tok) where
         back o c (inl z) = inl (p.met.1 (inr (z.0, (o, c, z.1))))
         back o c (inr z) = inr (z.0, lead at rs v w p o z.0 c z.1, subst (λ c. MetBlock P NoJoin t (k + length rs) s z.0 c) (sym p.left) z.2)
 
-    pub arm_behind : (i : ℕ) (rs : List Row) (s : Block) (rest : Arms) (v u : State) (r : Option Exit) → GoesArm P t at i rest v u r → GoesArm P t at (suc i) (arm rs s rest) v u r
-    arm_behind i rs s rest v u r g k = let w = g (k + length rs + spots_block s) in record { there = w.there; met = w.met; fewer = w.fewer }
+    pub arm_after : (i : ℕ) (rs : List Row) (s : Block) (rest : Arms) (v u : State) (r : Option Exit) → GoesArm P t at i rest v u r → GoesArm P t at (suc i) (arm rs s rest) v u r
+    arm_after i rs s rest v u r g k = let w = g (k + length rs + spots_block s) in record { there = w.there; met = w.met; fewer = w.fewer }
 
   -- ---- a focus
 

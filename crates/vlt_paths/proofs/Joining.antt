@@ -8,7 +8,7 @@ use Rattle.vlt_core.specs.Faults.{Spot, IsPresent, join_spot, head_spot, spots, 
 use Rattle.vlt_core.specs.Witness.{Choice, choice, then_arm, else_arm, turn, case_arm, Reaches, NoRow, IsJoin, ThroughBlock, MetArm}
 use Rattle.vlt_paths.specs.Along.{Sought}
 use Rattle.vlt_paths.specs.Legs.{Leg, Past, Takes, Onward, Around}
-use Rattle.vlt_paths.specs.Pairs.{Two, AreLed, Sight, Sees, IsGone, Meet, Then, Either, AtJoin, InForm, InBlock, InStmts, InArm, Behind, InChosen, InArms, InSwitch, AtTurn, InLoop}
+use Rattle.vlt_paths.specs.Pairs.{Two, AreLed, Sight, Sees, IsGone, Meet, Then, Either, AtJoin, InForm, InBlock, InStmts, InArm, Following, InChosen, InArms, InSwitch, AtTurn, InLoop}
 use Rattle.vlt_paths.proofs.Going.{number_of, same_pick, more_reached, reach_more}
 use Rattle.vlt_paths.proofs.Ranges.{no_row, in_form, in_block, in_stmts, in_arm}
 use Rattle.vlt_paths.proofs.Meeting.{IsSame, IsWithin, IsBlind, meet_unseen, meet_blind, meet_same, meet_led, meet_first, meet_second}
@@ -90,15 +90,15 @@ module _ (t : Tok) where
       from p is o cs (inr (inl h)) = (h.0, (cs, (h.1, refl), h.2))
       from p is o cs (inr (inr h)) = absurd (no_row t p is (end_of s) es h.2.0 h.2.2)
 
-  -- ---- a part, and the join behind it
+  -- ---- a part, and the join after it
 
-  module _ (at n : ℕ) (low end : ℕ) (s : Flow) (M : Sight) (k : ℕ) (w : IsWithin M low n) (e : IsSame (Either M (Behind t at s (join_spot end n))) (InForm t at k s)) (x : Two) where
+  module _ (at n : ℕ) (low end : ℕ) (s : Flow) (M : Sight) (k : ℕ) (w : IsWithin M low n) (e : IsSame (Either M (Following t at s (join_spot end n))) (InForm t at k s)) (x : Two) where
     meet_inside : Meet M x true → Meet (InForm t at k s) x true
-    meet_inside m = meet_same (Either M (Behind t at s (join_spot end n))) (InForm t at k s) x true e (meet_first M (Behind t at s (join_spot end n)) x m)
+    meet_inside m = meet_same (Either M (Following t at s (join_spot end n))) (InForm t at k s) x true e (meet_first M (Following t at s (join_spot end n)) x m)
 
-    meet_behind : (b : Bool) → Meet M x false → Meet (Behind t at s (join_spot end n)) x b → Meet (InForm t at k s) x b
-    meet_behind b m j = meet_same (Either M (Behind t at s (join_spot end n))) (InForm t at k s) x b e
-        (meet_second M (Behind t at s (join_spot end n)) x low n (n + 1) b w (within_then (Onward t at s) (AtJoin (join_spot end n)) n (n + 1) (within_join (join_spot end n))) m j)
+    meet_after : (b : Bool) → Meet M x false → Meet (Following t at s (join_spot end n)) x b → Meet (InForm t at k s) x b
+    meet_after b m j = meet_same (Either M (Following t at s (join_spot end n))) (InForm t at k s) x b e
+        (meet_second M (Following t at s (join_spot end n)) x low n (n + 1) b w (within_then (Onward t at s) (AtJoin (join_spot end n)) n (n + 1) (within_join (join_spot end n))) m j)
 
   -- ---- choices
 
@@ -126,15 +126,15 @@ module _ (t : Tok) where
         (k + length rs) (k + length rs + spots_block a) (k + length rs + spots_block a + spots_block b) (omega arith) (omega arith)
         (within_chosen (choice at then_arm) (k + length rs) a) (within_chosen (choice at else_arm) (k + length rs + spots_block a) b))
 
-    choose_same : IsSame (Either Inside (Behind t at (choose rs a b) (join_spot (end_of b) (k + length rs + spots_block a + spots_block b)))) (InForm t at k (choose rs a b))
+    choose_same : IsSame (Either Inside (Following t at (choose rs a b) (join_spot (end_of b) (k + length rs + spots_block a + spots_block b)))) (InForm t at k (choose rs a b))
     choose_same = record { same = λ p is o cs. (λ h. to p is o cs h, λ h. from p is o cs h) }
       where
-        to : (p : Spot) (is : One → Type 0) (o : One) (cs : List Choice) → Either Inside (Behind t at (choose rs a b) (join_spot (end_of b) (k + length rs + spots_block a + spots_block b))) (IsJoin p is) o cs → InForm t at k (choose rs a b) (IsJoin p is) o cs
+        to : (p : Spot) (is : One → Type 0) (o : One) (cs : List Choice) → Either Inside (Following t at (choose rs a b) (join_spot (end_of b) (k + length rs + spots_block a + spots_block b))) (IsJoin p is) o cs → InForm t at k (choose rs a b) (IsJoin p is) o cs
         to p is o cs (inl (m, (ds, l, inl (q, (es, c, h))))) = inr (inl (m, l.0, (es, inl (sym l.1 ∙ c.1, subst (λ z. InBlock t (k + length rs) a (IsJoin p is) z es) c.0 h))))
         to p is o cs (inl (m, (ds, l, inr (q, (es, c, h))))) = inr (inl (m, l.0, (es, inr (sym l.1 ∙ c.1, subst (λ z. InBlock t (k + length rs + spots_block a) b (IsJoin p is) z es) c.0 h))))
         to p is o cs (inr (q, (ds, w, j))) = inr (inr (q, subst (λ d. Onward t at (choose rs a b) o cs q d) j.0 w, j.1))
 
-        from : (p : Spot) (is : One → Type 0) (o : One) (cs : List Choice) → InForm t at k (choose rs a b) (IsJoin p is) o cs → Either Inside (Behind t at (choose rs a b) (join_spot (end_of b) (k + length rs + spots_block a + spots_block b))) (IsJoin p is) o cs
+        from : (p : Spot) (is : One → Type 0) (o : One) (cs : List Choice) → InForm t at k (choose rs a b) (IsJoin p is) o cs → Either Inside (Following t at (choose rs a b) (join_spot (end_of b) (k + length rs + spots_block a + spots_block b))) (IsJoin p is) o cs
         from p is o cs (inl h) = absurd (no_row t p is at rs o h.1)
         from p is o cs (inr (inl (m, l, (es, inl h)))) = inl (m, (cs, (l, refl), inl (m, (es, (refl, h.0), h.1))))
         from p is o cs (inr (inl (m, l, (es, inr h)))) = inl (m, (cs, (l, refl), inr (m, (es, (refl, h.0), h.1))))
@@ -144,8 +144,8 @@ module _ (t : Tok) where
     choose_inside x y l m = meet_inside at (k + length rs + spots_block a + spots_block b) (k + length rs) (end_of b) (choose rs a b) Inside k inside_within choose_same x
         (meet_led (Past t rs) (InChoice at (k + length rs) a b) x y true l m)
 
-    pub choose_behind : (x y : Two) (r : Bool) → AreLed (Past t rs) x y → Meet (InChoice at (k + length rs) a b) y false → Meet (Behind t at (choose rs a b) (join_spot (end_of b) (k + length rs + spots_block a + spots_block b))) x r → Meet (InForm t at k (choose rs a b)) x r
-    choose_behind x y r l m j = meet_behind at (k + length rs + spots_block a + spots_block b) (k + length rs) (end_of b) (choose rs a b) Inside k inside_within choose_same x r
+    pub choose_after : (x y : Two) (r : Bool) → AreLed (Past t rs) x y → Meet (InChoice at (k + length rs) a b) y false → Meet (Following t at (choose rs a b) (join_spot (end_of b) (k + length rs + spots_block a + spots_block b))) x r → Meet (InForm t at k (choose rs a b)) x r
+    choose_after x y r l m j = meet_after at (k + length rs + spots_block a + spots_block b) (k + length rs) (end_of b) (choose rs a b) Inside k inside_within choose_same x r
         (meet_led (Past t rs) (InChoice at (k + length rs) a b) x y false l m) j
 
   -- ---- switches
@@ -222,14 +222,14 @@ module _ (t : Tok) where
       from p is o cs (inr h) = (h.0, (cs, (h.1, refl), h.2))
 
   module _ (at k : ℕ) (rs : List Row) (arms : Arms) (end : ℕ) where
-    switch_same : IsSame (Either (InSwitch t at k rs arms) (Behind t at (switch rs arms end) (join_spot end (k + length rs + spots_arms arms)))) (InForm t at k (switch rs arms end))
+    switch_same : IsSame (Either (InSwitch t at k rs arms) (Following t at (switch rs arms end) (join_spot end (k + length rs + spots_arms arms)))) (InForm t at k (switch rs arms end))
     switch_same = record { same = λ p is o cs. (λ h. to p is o cs h, λ h. from p is o cs h) }
       where
-        to : (p : Spot) (is : One → Type 0) (o : One) (cs : List Choice) → Either (InSwitch t at k rs arms) (Behind t at (switch rs arms end) (join_spot end (k + length rs + spots_arms arms))) (IsJoin p is) o cs → InForm t at k (switch rs arms end) (IsJoin p is) o cs
+        to : (p : Spot) (is : One → Type 0) (o : One) (cs : List Choice) → Either (InSwitch t at k rs arms) (Following t at (switch rs arms end) (join_spot end (k + length rs + spots_arms arms))) (IsJoin p is) o cs → InForm t at k (switch rs arms end) (IsJoin p is) o cs
         to p is o cs (inl (m, (ds, l, (i, (q, (es, c, h)))))) = inr (inl (m, l.0, (i, (es, sym l.1 ∙ c.1, subst (λ z. InArm t at (k + length rs) i arms (IsJoin p is) z es) c.0 h))))
         to p is o cs (inr (q, (ds, w, j))) = inr (inr (q, subst (λ d. Onward t at (switch rs arms end) o cs q d) j.0 w, j.1))
 
-        from : (p : Spot) (is : One → Type 0) (o : One) (cs : List Choice) → InForm t at k (switch rs arms end) (IsJoin p is) o cs → Either (InSwitch t at k rs arms) (Behind t at (switch rs arms end) (join_spot end (k + length rs + spots_arms arms))) (IsJoin p is) o cs
+        from : (p : Spot) (is : One → Type 0) (o : One) (cs : List Choice) → InForm t at k (switch rs arms end) (IsJoin p is) o cs → Either (InSwitch t at k rs arms) (Following t at (switch rs arms end) (join_spot end (k + length rs + spots_arms arms))) (IsJoin p is) o cs
         from p is o cs (inl h) = absurd (no_row t p is at rs o h.1)
         from p is o cs (inr (inl (m, l, (i, (es, c, h))))) = inl (m, (cs, (l, refl), (i, (m, (es, (refl, c), h)))))
         from p is o cs (inr (inr h)) = inr (h.0, ([], h.1, (refl, h.2)))
@@ -240,8 +240,8 @@ module _ (t : Tok) where
     pub switch_inside : (x : Two) → Meet (InSwitch t at k rs arms) x true → Meet (InForm t at k (switch rs arms end)) x true
     switch_inside x m = meet_inside at (k + length rs + spots_arms arms) (k + length rs) end (switch rs arms end) (InSwitch t at k rs arms) k switch_within switch_same x m
 
-    pub switch_behind : (x : Two) (b : Bool) → Meet (InSwitch t at k rs arms) x false → Meet (Behind t at (switch rs arms end) (join_spot end (k + length rs + spots_arms arms))) x b → Meet (InForm t at k (switch rs arms end)) x b
-    switch_behind x b m j = meet_behind at (k + length rs + spots_arms arms) (k + length rs) end (switch rs arms end) (InSwitch t at k rs arms) k switch_within switch_same x b m j
+    pub switch_after : (x : Two) (b : Bool) → Meet (InSwitch t at k rs arms) x false → Meet (Following t at (switch rs arms end) (join_spot end (k + length rs + spots_arms arms))) x b → Meet (InForm t at k (switch rs arms end)) x b
+    switch_after x b m j = meet_after at (k + length rs + spots_arms arms) (k + length rs) end (switch rs arms end) (InSwitch t at k rs arms) k switch_within switch_same x b m j
 
   -- ---- loops
 
@@ -283,15 +283,15 @@ module _ (t : Tok) where
         from p is o cs (inl h) = (zero, (o, (cs, (refl, refl), h)))
         from p is o cs (inr (i, (es, w, (n, (q, (ds, r, h)))))) = (suc n, (q, (ds, reach_more P t at rs s n o i q cs es ds w r, h)))
 
-    loop_same : IsSame (Either (InLoop t at k rs s) (Behind t at (loop rs s) (join_spot (end_of s) (k + 1 + length rs + spots_block s)))) (InForm t at k (loop rs s))
+    loop_same : IsSame (Either (InLoop t at k rs s) (Following t at (loop rs s) (join_spot (end_of s) (k + 1 + length rs + spots_block s)))) (InForm t at k (loop rs s))
     loop_same = record { same = λ p is o cs. (λ h. to p is o cs h, λ h. from p is o cs h) }
       where
-        to : (p : Spot) (is : One → Type 0) (o : One) (cs : List Choice) → Either (InLoop t at k rs s) (Behind t at (loop rs s) (join_spot (end_of s) (k + 1 + length rs + spots_block s))) (IsJoin p is) o cs → InForm t at k (loop rs s) (IsJoin p is) o cs
+        to : (p : Spot) (is : One → Type 0) (o : One) (cs : List Choice) → Either (InLoop t at k rs s) (Following t at (loop rs s) (join_spot (end_of s) (k + 1 + length rs + spots_block s))) (IsJoin p is) o cs → InForm t at k (loop rs s) (IsJoin p is) o cs
         to p is o cs (inl (n, (q, (ds, r, inl h)))) = inl (n, (q, (ds, r, inl h)))
         to p is o cs (inl (n, (q, (ds, r, inr (m, (fs, l, (i, (es, c, h)))))))) = inl (n, (q, (ds, r, inr (inr (m, l.0, (es, sym l.1 ∙ c.1, subst (λ z. InBlock t (k + 1 + length rs) s (IsJoin p is) z es) c.0 h))))))
         to p is o cs (inr (q, (ds, w, j))) = inr (q, subst (λ d. Onward t at (loop rs s) o cs q d) j.0 w, j.1)
 
-        from : (p : Spot) (is : One → Type 0) (o : One) (cs : List Choice) → InForm t at k (loop rs s) (IsJoin p is) o cs → Either (InLoop t at k rs s) (Behind t at (loop rs s) (join_spot (end_of s) (k + 1 + length rs + spots_block s))) (IsJoin p is) o cs
+        from : (p : Spot) (is : One → Type 0) (o : One) (cs : List Choice) → InForm t at k (loop rs s) (IsJoin p is) o cs → Either (InLoop t at k rs s) (Following t at (loop rs s) (join_spot (end_of s) (k + 1 + length rs + spots_block s))) (IsJoin p is) o cs
         from p is o cs (inl (n, (q, (ds, r, inl h)))) = inl (n, (q, (ds, r, inl h)))
         from p is o cs (inl (n, (q, (ds, r, inr (inl h))))) = absurd (no_row t p is at rs q h.1)
         from p is o cs (inl (n, (q, (ds, r, inr (inr (m, l, (es, c, h))))))) = inl (n, (q, (ds, r, inr (m, (ds, (l, refl), (m, (es, (refl, c), h)))))))
@@ -300,5 +300,5 @@ module _ (t : Tok) where
     pub loop_inside : (x : Two) → Meet (InLoop t at k rs s) x true → Meet (InForm t at k (loop rs s)) x true
     loop_inside x m = meet_inside at (k + 1 + length rs + spots_block s) k (end_of s) (loop rs s) (InLoop t at k rs s) k loop_within loop_same x m
 
-    pub loop_behind : (x : Two) (b : Bool) → Meet (InLoop t at k rs s) x false → Meet (Behind t at (loop rs s) (join_spot (end_of s) (k + 1 + length rs + spots_block s))) x b → Meet (InForm t at k (loop rs s)) x b
-    loop_behind x b m j = meet_behind at (k + 1 + length rs + spots_block s) k (end_of s) (loop rs s) (InLoop t at k rs s) k loop_within loop_same x b m j
+    pub loop_after : (x : Two) (b : Bool) → Meet (InLoop t at k rs s) x false → Meet (Following t at (loop rs s) (join_spot (end_of s) (k + 1 + length rs + spots_block s))) x b → Meet (InForm t at k (loop rs s)) x b
+    loop_after x b m j = meet_after at (k + 1 + length rs + spots_block s) k (end_of s) (loop rs s) (InLoop t at k rs s) k loop_within loop_same x b m j

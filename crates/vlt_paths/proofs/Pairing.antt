@@ -27,14 +27,14 @@ use Rattle.vlt_paths.specs.declared.point.Hunt.{Hunt}
 use Rattle.vlt_paths.specs.Along.{Goes, TurnWay, TurnSight, state_of, sought_of, exit_of, IsBound, IsPast, AlongForm, AlongTurn}
 use Rattle.vlt_paths.specs.Legs.{Led, Past, Takes, Onward, Around, IsNext}
 use Rattle.vlt_paths.specs.Legs as legs
-use Rattle.vlt_paths.specs.Pairs.{has_blocks, AreLed, AreAt, Two, two_of, Sight, Either, Then, AtJoin, AtTurn, InLoop, InArm, InArms, InBlock, Meet, MeetForm, MeetBlock, MeetStmts, MeetBehind, MeetSwitch, MeetTurn, MeetTurns, MeetLoop}
+use Rattle.vlt_paths.specs.Pairs.{has_blocks, AreLed, AreAt, Two, two_of, Sight, Either, Then, AtJoin, AtTurn, InLoop, InArm, InArms, InBlock, Meet, MeetForm, MeetBlock, MeetStmts, MeetAfter, MeetSwitch, MeetTurn, MeetTurns, MeetLoop}
 use Rattle.vlt_paths.proofs.Walking.{not_next, stmts_at, stmts_past}
 use Rattle.vlt_paths.proofs.Choosing.{not_continue, bound_more}
 use Rattle.vlt_paths.proofs.Leading.{led_nowhere, led_past, led_out, not_out}
 use Rattle.vlt_paths.proofs.Meeting.{IsSame, IsBlind, meet_led, meet_join, second_here, second_more, second_last, first_here, first_more, first_last}
-use Rattle.vlt_paths.proofs.Joining.{InChoice, meet_step, meet_return, meet_jump, meet_here, meet_next, meet_done, meet_block, meet_scope, meet_focus, meet_then, meet_else, choose_inside, choose_behind, meet_arm, no_arm_chosen, no_arm_there, first_arm, switch_inside, switch_behind, meet_turn_head, meet_turn_body, loop_turns, loop_inside, loop_behind}
+use Rattle.vlt_paths.proofs.Joining.{InChoice, meet_step, meet_return, meet_jump, meet_here, meet_next, meet_done, meet_block, meet_scope, meet_focus, meet_then, meet_else, choose_inside, choose_after, meet_arm, no_arm_chosen, no_arm_there, first_arm, switch_inside, switch_after, meet_turn_head, meet_turn_body, loop_turns, loop_inside, loop_after}
 
--- ---- behind a statement
+-- ---- after a statement
 
 module _ (h : Hunt) (at : ℕ) (x : s.Flow) (v : Point) (w : Went) (z : Point) (g : AlongForm h x at v w) (n : IsNext w z) where
   abbrev Met0 : One → List Choice → Type 0
@@ -179,7 +179,7 @@ module _ (h : Hunt) (at : ℕ) where
   pub meets_focus : (rs : List Row) (b : s.Block) (es : List Row) (x y : Pair) (r : Bool) → AreLed (Past (tok_of h.tok) rs) (two_of x) (two_of y) → MeetBlock h b y r → MeetForm h (s.focus rs b es) at x r
   meets_focus rs b es x y r l m k = meet_focus (tok_of h.tok) at k rs b es (two_of x) (two_of y) r l (m (k + length rs))
 
-  -- inside a statement, or behind it
+  -- inside a statement, or after it
   module _ (rs : List Row) (a b : s.Block) (x m y z : Pair) (r q : Bool) (past : AreLed (Past (tok_of h.tok) rs) (two_of x) (two_of m)) (then : AreLed (Takes (choice at then_arm)) (two_of m) (two_of y)) (first : MeetBlock h a y r) where
     pub meets_then : r ≡ true → MeetForm h (s.choose rs a b) at x true
     meets_then e =
@@ -193,24 +193,24 @@ module _ (h : Hunt) (at : ℕ) where
       meets_else e = subst (λ q. MeetForm h (s.choose rs a b) at x q) (sym e)
           (λ k. choose_inside (tok_of h.tok) at k rs a b (two_of x) (two_of m) past (subst (λ q. Meet (InChoice (tok_of h.tok) at (k + length rs) a b) (two_of m) q) e (either (k + length rs))))
 
-      pub meets_behind_choice : (end : ℕ) (u : Bool) → end ≡ s.end_of b → q ≡ false → MeetBehind h (s.choose rs a b) at end x u → MeetForm h (s.choose rs a b) at x u
-      meets_behind_choice end u is e j k = choose_behind (tok_of h.tok) at k rs a b (two_of x) (two_of m) u past (subst (λ q. Meet (InChoice (tok_of h.tok) at (k + length rs) a b) (two_of m) q) e (either (k + length rs)))
-          (subst (λ n. MeetBehind h (s.choose rs a b) at n x u) is j (k + length rs + spots_block a + spots_block b))
+      pub meets_after_choice : (end : ℕ) (u : Bool) → end ≡ s.end_of b → q ≡ false → MeetAfter h (s.choose rs a b) at end x u → MeetForm h (s.choose rs a b) at x u
+      meets_after_choice end u is e j k = choose_after (tok_of h.tok) at k rs a b (two_of x) (two_of m) u past (subst (λ q. Meet (InChoice (tok_of h.tok) at (k + length rs) a b) (two_of m) q) e (either (k + length rs)))
+          (subst (λ n. MeetAfter h (s.choose rs a b) at n x u) is j (k + length rs + spots_block a + spots_block b))
 
   pub meets_loop : (rs : List Row) (b : s.Block) (x : Pair) (r : Bool) → MeetLoop h at rs b x r → r ≡ true → MeetForm h (s.loop rs b) at x r
   meets_loop rs b x r m e = subst (λ r. MeetForm h (s.loop rs b) at x r) (sym e) (λ k. loop_inside (tok_of h.tok) at k rs b (two_of x) (subst (λ r. MeetLoop h at rs b x r) e m k))
 
-  pub meets_behind_loop : (rs : List Row) (b : s.Block) (end : ℕ) (x : Pair) (r q : Bool) → end ≡ s.end_of b → MeetLoop h at rs b x r → r ≡ false → MeetBehind h (s.loop rs b) at end x q → MeetForm h (s.loop rs b) at x q
-  meets_behind_loop rs b end x r q is m e j k = loop_behind (tok_of h.tok) at k rs b (two_of x) q (subst (λ r. MeetLoop h at rs b x r) e m k)
-      (subst (λ n. MeetBehind h (s.loop rs b) at n x q) is j (k + 1 + length rs + spots_block b))
+  pub meets_after_loop : (rs : List Row) (b : s.Block) (end : ℕ) (x : Pair) (r q : Bool) → end ≡ s.end_of b → MeetLoop h at rs b x r → r ≡ false → MeetAfter h (s.loop rs b) at end x q → MeetForm h (s.loop rs b) at x q
+  meets_after_loop rs b end x r q is m e j k = loop_after (tok_of h.tok) at k rs b (two_of x) q (subst (λ r. MeetLoop h at rs b x r) e m k)
+      (subst (λ n. MeetAfter h (s.loop rs b) at n x q) is j (k + 1 + length rs + spots_block b))
 
   pub meets_switch : (rs : List Row) (arms : s.Arms) (end : ℕ) (x : Pair) (r : Bool) → MeetSwitch h at rs arms x r → r ≡ true → MeetForm h (s.switch rs arms end) at x r
   meets_switch rs arms end x r m e = subst (λ r. MeetForm h (s.switch rs arms end) at x r) (sym e) (λ k. switch_inside (tok_of h.tok) at k rs arms end (two_of x) (subst (λ r. MeetSwitch h at rs arms x r) e m k))
 
-  pub meets_behind_switch : (rs : List Row) (arms : s.Arms) (end : ℕ) (x : Pair) (r q : Bool) → MeetSwitch h at rs arms x r → r ≡ false → MeetBehind h (s.switch rs arms end) at end x q → MeetForm h (s.switch rs arms end) at x q
-  meets_behind_switch rs arms end x r q m e j k = switch_behind (tok_of h.tok) at k rs arms end (two_of x) q (subst (λ r. MeetSwitch h at rs arms x r) e m k) (j (k + length rs + spots_arms arms))
+  pub meets_after_switch : (rs : List Row) (arms : s.Arms) (end : ℕ) (x : Pair) (r q : Bool) → MeetSwitch h at rs arms x r → r ≡ false → MeetAfter h (s.switch rs arms end) at end x q → MeetForm h (s.switch rs arms end) at x q
+  meets_after_switch rs arms end x r q m e j k = switch_after (tok_of h.tok) at k rs arms end (two_of x) q (subst (λ r. MeetSwitch h at rs arms x r) e m k) (j (k + length rs + spots_arms arms))
 
-  pub meets_end : (form : s.Flow) (end : ℕ) (x y : Pair) (b : Bool) → AreLed (Onward (tok_of h.tok) at form) (two_of x) (two_of y) → (IsTrue b ↔ AreAt end (two_of y)) → MeetBehind h form at end x b
+  pub meets_end : (form : s.Flow) (end : ℕ) (x y : Pair) (b : Bool) → AreLed (Onward (tok_of h.tok) at form) (two_of x) (two_of y) → (IsTrue b ↔ AreAt end (two_of y)) → MeetAfter h form at end x b
   meets_end form end x y b l e n = meet_led (Onward (tok_of h.tok) at form) (AtJoin (join_spot end n)) (two_of x) (two_of y) b l (meet_join (join_spot end n) (two_of y) b e)
 
   -- ---- turns

@@ -184,8 +184,8 @@ module _ (a b : Numbers) where
   pub before_exceeds : a.from < a.to → a.from < b.from → InFirst
   before_exceeds some less = high a.from (omega arith) some (λ p q. omega (arith, p, less))
 
-  pub behind_exceeds : a.from < a.to → b.to < a.to → InFirst
-  behind_exceeds some less = high (a.to - 1) (omega (arith, some)) (omega (arith, some)) (λ p q. omega (arith, q, less))
+  pub after_exceeds : a.from < a.to → b.to < a.to → InFirst
+  after_exceeds some less = high (a.to - 1) (omega (arith, some)) (omega (arith, some)) (λ p q. omega (arith, q, less))
 
   pub within : bit_and a.mask (bit_not w32 b.mask) ≡ 0 → (a.to ≤ a.from) ⊎ ((b.from ≤ a.from) × (a.to ≤ b.to)) → InFirst → ⊥
   within zero rest x = ⊎_elim

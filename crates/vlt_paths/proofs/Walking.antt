@@ -19,7 +19,7 @@ use Rattle.vlt_paths.specs.declared.along.Went.{Went}
 use Rattle.vlt_paths.specs.declared.point.Point.{Point}
 use Rattle.vlt_paths.specs.declared.point.Hunt.{Hunt}
 use Rattle.vlt_paths.specs.Along.{State, Sought, Goes, GoesForm, GoesArm, Passes, GoesBlock, state_of, sought_of, exit_of, IsBound, AlongForm, AlongStmts, AlongTurn, TurnWay, TurnSight}
-use Rattle.vlt_paths.proofs.Going.{none_some, go_done, go_next, list_left, loop_more, arm_here, arm_behind}
+use Rattle.vlt_paths.proofs.Going.{none_some, go_done, go_next, list_left, loop_more, arm_here, arm_after}
 
 split_at : {X : Type 0} (xs : List X) (i : ℕ) (x : X) → i < length xs → x ≡ get_or xs i x → drop i xs ≡ x ∷ drop (i + 1) xs
 split_at xs i x lt read = rw add-one (drop-cons xs i x lt ∙ ap (λ y. y ∷ drop (suc i) xs) (sym read))
@@ -97,7 +97,7 @@ module _ (p : Program) (f : Func) where
         same_some : Some y ≡ Some x → y ≡ x
         same_some e = grind arith
     arm_found (y ∷ xs) (suc i) x a w u r e q g =
-        arm_behind P t at i (arm_rows p f v (arm_of y).0 (arm_of y).1) (flow_of_block p f ts (arm_of y).2) (flow_of_arms p f ts v (arms_of xs)) a u r (arm_found xs i x a w u r e q g)
+        arm_after P t at i (arm_rows p f v (arm_of y).0 (arm_of y).1) (flow_of_block p f ts (arm_of y).2) (flow_of_arms p f ts v (arms_of xs)) a u r (arm_found xs i x a w u r e q g)
 
     pub no_arm : (xs : List Arm) (i : ℕ) → slice_get xs i ≡ None → (o : One) (l : List Choice) (x : Exit) (q : One) (ds : List Choice) → ThroughArm t i (flow_of_arms p f ts v (arms_of xs)) o l x q ds → ⊥
     no_arm [] i e o l x q ds h = h

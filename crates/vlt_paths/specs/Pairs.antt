@@ -80,9 +80,9 @@ module _ (t : Tok) where
   abbrev pub InArm : (at k i : ℕ) → Arms → Sight
   InArm at k i arms Q o cs = MetArm NoRow Q t at k i arms o cs
 
-  -- the join behind a statement
-  abbrev pub Behind : (at : ℕ) → Flow → Spot → Sight
-  Behind at s p = Then (Onward t at s) (AtJoin p)
+  -- the join after a statement
+  abbrev pub Following : (at : ℕ) → Flow → Spot → Sight
+  Following at s p = Then (Onward t at s) (AtJoin p)
 
   -- a block by a choice
   abbrev pub InChosen : Choice → (k : ℕ) → Block → Sight
@@ -107,7 +107,7 @@ module _ (t : Tok) where
 
 -- ---- of the code
 
--- whether joins may stand in it or behind it
+-- whether joins may stand in it or after it
 abbrev pub has_blocks : core.Form → Bool
 has_blocks (core.choose e a b) = true
 has_blocks (core.loop e b) = true
@@ -125,9 +125,9 @@ MeetBlock h s x b = (k : ℕ) → Meet (InBlock (tok_of h.tok) k s) (two_of x) b
 abbrev pub MeetStmts : Hunt → Stmts → Pair → Bool → Type 0
 MeetStmts h ss x b = (k : ℕ) → Meet (InStmts (tok_of h.tok) k ss) (two_of x) b
 
--- the join behind a statement, which is at this end
-abbrev pub MeetBehind : Hunt → Flow → (at end : ℕ) → Pair → Bool → Type 0
-MeetBehind h s at end x b = (n : ℕ) → Meet (Behind (tok_of h.tok) at s (join_spot end n)) (two_of x) b
+-- the join after a statement, which is at this end
+abbrev pub MeetAfter : Hunt → Flow → (at end : ℕ) → Pair → Bool → Type 0
+MeetAfter h s at end x b = (n : ℕ) → Meet (Following (tok_of h.tok) at s (join_spot end n)) (two_of x) b
 
 abbrev pub MeetSwitch : Hunt → (at : ℕ) → List Row → Arms → Pair → Bool → Type 0
 MeetSwitch h at rs arms x b = (k : ℕ) → Meet (InSwitch (tok_of h.tok) at k rs arms) (two_of x) b

@@ -34,7 +34,7 @@ pub enum Out {
     Nowhere,
 }
 
-/// A path behind a part.
+/// A path after a part.
 #[derive(Clone, Copy)]
 pub struct Went<'a> {
     pub out: Out,
@@ -98,18 +98,18 @@ pub fn go_form<'a>(
             then_block,
             else_block,
         } => {
-            let behind = past_expr(p, f, hunt, at, cond, point);
-            match behind.choose(at) {
+            let following = past_expr(p, f, hunt, at, cond, point);
+            match following.choose(at) {
                 None => Went {
                     out: Out::Nowhere,
-                    point: behind,
+                    point: following,
                 },
                 Some(chosen) => match chosen.pick {
                     Pick::Then => go_block(p, f, hunt, left, then_block, chosen.point),
                     Pick::Else => go_block(p, f, hunt, left, else_block, chosen.point),
                     _ => Went {
                         out: Out::Nowhere,
-                        point: behind,
+                        point: following,
                     },
                 },
             }
@@ -192,11 +192,11 @@ pub fn go_turn<'a>(
     ensures fewer { result.out ≡ Continue →
         length (choices_of result.point.rest.now) < length (choices_of point.entry.rest.now) }
 {
-    let behind = past_expr(p, f, hunt, at, cond, point);
-    match behind.choose(at) {
+    let following = past_expr(p, f, hunt, at, cond, point);
+    match following.choose(at) {
         None => Went {
             out: Out::Nowhere,
-            point: behind,
+            point: following,
         },
         Some(chosen) => match chosen.pick {
             Pick::Exit => Went {
@@ -206,7 +206,7 @@ pub fn go_turn<'a>(
             Pick::Turn => turned(go_block(p, f, hunt, false, body, chosen.point)),
             _ => Went {
                 out: Out::Nowhere,
-                point: behind,
+                point: following,
             },
         },
     }
@@ -285,17 +285,17 @@ fn go_switch<'a>(
         (instance (program_of p.now) (func_of f.now) hunt.origin) ts
         (core.switch v.0 (arms_of arms.now) end)) at point.entry result }
 {
-    let behind = past_switch(f, hunt, at, v, point);
-    match behind.choose(at) {
+    let following = past_switch(f, hunt, at, v, point);
+    match following.choose(at) {
         None => Went {
             out: Out::Nowhere,
-            point: behind,
+            point: following,
         },
         Some(chosen) => match chosen.pick {
             Pick::Case(position) => match arm_at(arms, position) {
                 None => Went {
                     out: Out::Nowhere,
-                    point: behind,
+                    point: following,
                 },
                 Some(arm) => {
                     let inside = past_arm(
@@ -313,7 +313,7 @@ fn go_switch<'a>(
             },
             _ => Went {
                 out: Out::Nowhere,
-                point: behind,
+                point: following,
             },
         },
     }
@@ -392,10 +392,10 @@ pub fn go_stmts<'a>(
 {
     let mut here = point;
     for s in stmts {
-        let behind = go_form(p, f, hunt, left, &s.form, s.at, here);
-        match behind.out {
-            Out::Next => here = behind.point,
-            _ => return behind,
+        let following = go_form(p, f, hunt, left, &s.form, s.at, here);
+        match following.out {
+            Out::Next => here = following.point,
+            _ => return following,
         }
     }
     Went {
@@ -404,7 +404,7 @@ pub fn go_stmts<'a>(
     }
 }
 
-/// Behind a statement, at the next one.
+/// Following a statement, at the next one.
 pub fn go_on<'a>(
     p: &Program,
     f: &Func,

@@ -39,7 +39,7 @@ impl<'a> Pair<'a> {
             && self.second.comes.is_present()
     }
 
-    /// Behind this choice.
+    /// Following this choice.
     pub fn take(self, at: u32, pick: Pick) -> Pair<'a>
         ensures { AreLed (Takes (w.choice at (pick_of pick))) (two_of self.entry) (two_of result) }
     {
@@ -117,7 +117,7 @@ impl<'a> Pair<'a> {
         }
     }
 
-    /// Behind a statement, at the next one.
+    /// Following a statement, at the next one.
     pub fn go_on(
         self,
         p: &Program,

@@ -290,6 +290,6 @@ pub fn past_return<'a>(
         (option_map operand_of value.now))
         point.entry result }
 {
-    let behind = past_handed_back(p, f, hunt, at, value, point);
-    past_own(f, hunt, at, behind)
+    let following = past_handed_back(p, f, hunt, at, value, point);
+    past_own(f, hunt, at, following)
 }

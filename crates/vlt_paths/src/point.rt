@@ -33,11 +33,11 @@ pub struct Point<'a> {
     pub comes: Comes,
     /// The choices that are still to be made.
     pub rest: &'a [Choice],
-    /// Whether the row was met behind the last choice.
+    /// Whether the row was met after the last choice.
     pub met: bool,
 }
 
-/// A choice that was made, and the path behind it.
+/// A choice that was made, and the path after it.
 #[derive(Clone, Copy)]
 pub struct Chosen<'a> {
     pub pick: Pick,
@@ -83,7 +83,7 @@ impl<'a> Point<'a> {
         }
     }
 
-    /// Behind this choice, where it is the next one.
+    /// Following this choice, where it is the next one.
     pub fn take(self, at: u32, pick: Pick) -> Point<'a>
         ensures { Led (Takes (w.choice at (pick_of pick))) (state_of self.entry) (state_of result) }
     {

@@ -10,7 +10,7 @@ ghost use Rattle.vlt_rows.specs.Pieces.{switch_rows};
 ghost use Rattle.vlt_paths.specs.declared.point.Hunt.{Hunt};
 ghost use Rattle.vlt_paths.specs.declared.pair.Pair.{Pair};
 ghost use Rattle.vlt_paths.specs.Along.{IsBound};
-ghost use Rattle.vlt_paths.specs.Pairs.{has_blocks, MeetForm, MeetBlock, MeetStmts, MeetBehind, MeetSwitch, MeetTurn, MeetTurns, MeetLoop};
+ghost use Rattle.vlt_paths.specs.Pairs.{has_blocks, MeetForm, MeetBlock, MeetStmts, MeetAfter, MeetSwitch, MeetTurn, MeetTurns, MeetLoop};
 
 use crate::along::{Out, arm_at, go_turn, is_bound};
 use crate::pair::Pair;
@@ -18,8 +18,8 @@ use crate::point::Hunt;
 use vlt_base::VarId;
 use vlt_core::{Arm, Block, Expr, Form, Func, Pick, Program, Stmt};
 
-/// Whether both come to the join behind a statement, which is at this end.
-fn meet_behind(
+/// Whether both come to the join after a statement, which is at this end.
+fn meet_after(
     p: &Program,
     f: &Func,
     hunt: Hunt,
@@ -29,7 +29,7 @@ fn meet_behind(
     end: u32,
     pair: Pair<'_>,
 ) -> bool
-    ensures { (ts : List core.Tok) → IsBound hunt ts left → MeetBehind hunt
+    ensures { (ts : List core.Tok) → IsBound hunt ts left → MeetAfter hunt
         (flow_of (program_of p.now)
         (instance (program_of p.now) (func_of f.now) hunt.origin) ts (form_of form.now)) at end
         pair.entry result }
@@ -37,7 +37,7 @@ fn meet_behind(
     pair.go_on(p, f, hunt, left, form, at).is_join(end)
 }
 
-/// No join stands in a statement without blocks, or behind it.
+/// No join stands in a statement without blocks, or after it.
 fn meet_step(form: &Form) -> bool
     requires { has_blocks (form_of form.now) ≡ false }
     ensures { (p : core.Program) (f : core.Func) (ts : List core.Tok) (hunt : Hunt) (at : ℕ)
@@ -68,20 +68,20 @@ fn meet_form(
             then_block,
             else_block,
         } => {
-            let behind = pair.past_expr(p, f, hunt, at, cond);
-            if meet_block(p, f, hunt, left, then_block, behind.take(at, Pick::Then)) {
+            let following = pair.past_expr(p, f, hunt, at, cond);
+            if meet_block(p, f, hunt, left, then_block, following.take(at, Pick::Then)) {
                 return true;
             }
-            meet_block(p, f, hunt, left, else_block, behind.take(at, Pick::Else))
-                || meet_behind(p, f, hunt, left, form, at, else_block.end, pair)
+            meet_block(p, f, hunt, left, else_block, following.take(at, Pick::Else))
+                || meet_after(p, f, hunt, left, form, at, else_block.end, pair)
         }
         Form::While { cond, body } => {
             meet_loop(p, f, hunt, body, cond, at, pair)
-                || meet_behind(p, f, hunt, left, form, at, body.end, pair)
+                || meet_after(p, f, hunt, left, form, at, body.end, pair)
         }
         Form::Switch { v, arms, end } => {
             meet_switch(p, f, hunt, left, *v, arms.as_slice(), at, pair)
-                || meet_behind(p, f, hunt, left, form, at, *end, pair)
+                || meet_after(p, f, hunt, left, form, at, *end, pair)
         }
         Form::Focus { y, z, body } => {
             let inside = pair.past_focus(p, f, hunt, at, *y, *z);
@@ -110,13 +110,13 @@ fn meet_switch(
         (instance (program_of p.now) (func_of f.now) hunt.origin) ts v.0 (arms_of arms.now))
         pair.entry result }
 {
-    let behind = pair.past_switch(f, hunt, at, v);
-    match behind.first.arm(at) {
+    let following = pair.past_switch(f, hunt, at, v);
+    match following.first.arm(at) {
         None => false,
         Some(position) => match arm_at(arms, position) {
             None => false,
             Some(arm) => {
-                let inside = behind
+                let inside = following
                     .take(at, Pick::Case(position))
                     .past_arm(p, f, hunt, at, v, arm.case, arm.vars.as_slice());
                 meet_block(p, f, hunt, left, &arm.body, inside)

@@ -10,7 +10,8 @@ use Rattle.vlt_syntax.specs.declared.tree.Arm.{Arm}
 use Rattle.vlt_syntax.specs.declared.tree.Block.{Block, out-Block}
 use Rattle.vlt_syntax.specs.declared.tree.Else.TheFolds.{fold_out-Block}
 use Rattle.vlt_syntax.specs.View.{ArmView, else_step, stmt_step, arm_step, block_step, if_step, name_of, stmt_of, stmts_of, arms_of, block_of}
-use Rattle.vlt_printer.specs.Lists.{Layout, text, separated_after, listed_after, enclosed_after, braced_after}
+use Rattle.vlt_base.specs.Layout.{Layout, text}
+use Rattle.vlt_printer.specs.Lists.{separated_after, listed_after, enclosed_after, braced_after}
 use Rattle.vlt_printer.specs.Layout.{deeper, name_after, case_after, cases_after, stmt_after, stmts_after, block_after, arms_after}
 
 some_stmts : (indent before : List ℕ) (stmts : List Stmt) (at : Span) → (length stmts ≡ 0 → ⊥)

@@ -5,7 +5,8 @@ use Rattle.std.specs.Fmt.{signed_decimal}
 use Rattle.vlt_ops.specs.Operator.{row_of}
 use Rattle.vlt_syntax.specs.Tree as s
 use Rattle.vlt_syntax.specs.Tree.{Name, States, KeyStates, Named, Ty, Expr, Build, Call, Init, Right, Returned, Stmt, Block, If, Else, Stmts, Arms, SetState, HeaderKey, Field, Case, Entry, ResultType, Parameter, Head, Decl, Tree}
-use Rattle.vlt_printer.specs.Lists.{Layout, ◌▹◌, nothing, written, text, each_after, separated_after, listed_after, enclosed_after, braced_after}
+use Rattle.vlt_base.specs.Layout.{Layout, ◌▹◌, nothing, written, text}
+use Rattle.vlt_printer.specs.Lists.{each_after, separated_after, listed_after, enclosed_after, braced_after}
 
 abbrev pub name_after : Name → Layout
 name_after n = written n.text

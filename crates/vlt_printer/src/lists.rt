@@ -1,7 +1,8 @@
 //! Lists of things.
 
 ghost use Rattle.std.specs.Prelude.{◌≡◌, ◌++◌, map, OnOk};
-ghost use Rattle.vlt_printer.specs.Lists.{Layout, written, each_after, separated_after, listed_after, enclosed_after, braced_after};
+ghost use Rattle.vlt_base.specs.Layout.{Layout, written};
+ghost use Rattle.vlt_printer.specs.Lists.{each_after, separated_after, listed_after, enclosed_after, braced_after};
 
 use vlt_base::Memory;
 

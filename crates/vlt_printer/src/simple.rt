@@ -2,7 +2,8 @@
 
 ghost use Rattle.std.specs.Prelude.{◌≡◌, OnOk};
 ghost use Rattle.vlt_syntax.specs.View.{name_of, names_of, ty_of, expr_of, right_of};
-ghost use Rattle.vlt_printer.specs.Lists.{◌▹◌, text, listed_after};
+ghost use Rattle.vlt_base.specs.Layout.{◌▹◌, text};
+ghost use Rattle.vlt_printer.specs.Lists.{listed_after};
 ghost use Rattle.vlt_printer.specs.Layout.{name_after, ty_after, expr_after, right_after};
 
 use crate::exprs::write_expr;

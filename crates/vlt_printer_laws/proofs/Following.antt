@@ -1,4 +1,4 @@
--- What may stand behind a text so that its last piece is still the longest one there.
+-- What may stand after a text so that its last piece is still the longest one there.
 use Rattle.std.proofs.Common.{◌≡◌, ℕ, Bool, true, false, not, ◌&&◌, ◌||◌, List, [], ◌∷◌, ◌++◌, refl, sym, ap, ◌∙◌, arith}
 use Rattle.std.specs.Prelude.{◌==◌}
 use Rattle.std.proofs.lemmas.Bool.{and_parts}
@@ -15,7 +15,7 @@ use Rattle.vlt_lexer.proofs.Heads.{name_head, is_sign_head, sign_opens, sign_som
 abbrev pub is_second : ℕ → Bool
 is_second c = (c == 38) || (c == 42) || (c == 47) || (c == 61) || (c == 62) || (c == 124)
 
--- What a text ends in: `clear`, where anything may follow, as behind a blank; something like a name; a sign; or one of these two.
+-- What a text ends in: `clear`, where anything may follow, as after a blank; something like a name; a sign; or one of these two.
 pub data Last : Type 0 where
   clear : Last
   wordy : Last

@@ -5,7 +5,8 @@ use Rattle.vlt_ops.specs.Operator.{row_of}
 use Rattle.vlt_syntax.specs.Tree as s
 use Rattle.vlt_syntax.specs.Tree.{Name, States, Field, Tree}
 use Rattle.vlt_syntax.specs.Places.{Spans, Placing, each_at, further_at, listed_at, enclosed_at, marked_at, name_at, states_at, key_states_at, named_at, ty_at, expr_at, build_at, call_at, init_at, owner_at, right_at, returned_at, stmt_at, block_at, if_at, else_at, stmts_at, arms_at, set_state_at, header_key_at, field_at, release_at, case_at, entry_at, result_type_at, parameter_at, clause_at, head_at, decl_at, tree_at}
-use Rattle.vlt_printer.specs.Lists.{Layout, written, text, each_after, further_after, separated_after, listed_after, enclosed_after, braced_after}
+use Rattle.vlt_base.specs.Layout.{Layout, written, text}
+use Rattle.vlt_printer.specs.Lists.{each_after, further_after, separated_after, listed_after, enclosed_after, braced_after}
 use Rattle.vlt_printer.specs.Layout.{name_after, at_name_after, states_after, at_states_after, key_states_after, named_after, ty_after, expr_after, build_after, call_after, init_after, owner_after, right_after, returned_after, deeper, stmt_after, block_after, stmts_after, if_after, else_after, arms_after, state_separator, further_states_after, set_states_after, header_key_after, header_after, field_line_after, release_line_after, fields_after, case_after, cases_after, entry_after, result_type_after, parameter_after, clause_after, head_after, decl_after, decl_line_after, layout}
 
 abbrev Lays : {X : Type 0} → (X → Placing X) → (X → Layout) → Type 0

@@ -64,7 +64,7 @@ mark_short other (a_sign _ m same) = ap two_at_most same ∙ spelled_passes sign
 mark_short other (a_line _ same) = ap two_at_most same
 mark_short other (a_block _ same) = ap two_at_most same
 
--- nothing of that kind is longer than a sign, where the text behind the sign doesn't begin with such a second character
+-- nothing of that kind is longer than a sign, where the text after the sign doesn't begin with such a second character
 no_longer : (s : ℕ) (ss rest other after : List ℕ) → Fits signed rest → (s ∷ ss) ++ rest ≡ other ++ after → two_at_most other ≡ true → length other ≤ length (s ∷ ss)
 unfolding two_at_most
 no_longer s ss rest [] after fits e short = omega arith

@@ -3,9 +3,9 @@ use Rattle.std.proofs.Common.{◌≡◌, ℕ, Bool, true, false, cond, eqb, List
 use Rattle.std.specs.Prelude.{codes}
 use Rattle.std.proofs.lemmas.Bool.{and_parts}
 use Rattle.std.proofs.Math.Utf8.{scalar, scalars}
-use Rattle.vlt_lexer.specs.Characters.{behind, or_else, after_line, after_close}
+use Rattle.vlt_lexer.specs.Characters.{following, or_else, after_line, after_close}
 use Rattle.vlt_lexer.specs.Reading.{IsGap, blank, line, block}
-use Rattle.vlt_lexer.proofs.Runs.{behind_splits, some_is}
+use Rattle.vlt_lexer.proofs.Runs.{after_splits, some_is}
 
 abbrev pub AreScalars : List ℕ → Type 0
 AreScalars cs = scalars cs ≡ true
@@ -33,15 +33,15 @@ line_scalars (c ∷ cs) is = let are = (and_parts (scalar c) (scalars cs) is).1 
 
 close_scalars : (cs after : List ℕ) → after_close cs ≡ Some after → AreScalars cs → AreScalars after
 close_scalars [] after e is = absurd cc
-close_scalars (c ∷ cs) after e is = at (behind (codes "*/") (c ∷ cs)) refl e (λ n. close_scalars cs after n (and_parts (scalar c) (scalars cs) is).1)
+close_scalars (c ∷ cs) after e is = at (following (codes "*/") (c ∷ cs)) refl e (λ n. close_scalars cs after n (and_parts (scalar c) (scalars cs) is).1)
   where
-    at : (b : Option (List ℕ)) → behind (codes "*/") (c ∷ cs) ≡ b → or_else b (after_close cs) ≡ Some after → (after_close cs ≡ Some after → AreScalars after) → AreScalars after
+    at : (b : Option (List ℕ)) → following (codes "*/") (c ∷ cs) ≡ b → or_else b (after_close cs) ≡ Some after → (after_close cs ≡ Some after → AreScalars after) → AreScalars after
     at None h n further = further n
     at (Some r) h n further =
-        let begins = behind_splits (codes "*/") (c ∷ cs) r h ∙ ap (λ t. codes "*/" ++ t) (some_is n) in
+        let begins = after_splits (codes "*/") (c ∷ cs) r h ∙ ap (λ t. codes "*/" ++ t) (some_is n) in
         (scalars_split (codes "*/") after (subst AreScalars begins is)).1
 
--- behind a gap the rest of a text is a text
+-- after a gap the rest of a text is a text
 pub gap_scalars : (cs after : List ℕ) → IsGap cs after → AreScalars cs → AreScalars after
 gap_scalars cs after (blank _ c _ e is) are = (and_parts (scalar c) (scalars after) (subst AreScalars e are)).1
 gap_scalars cs after (line _ inside _ e is) are = subst AreScalars (sym is) (line_scalars inside (scalars_split (codes "//") inside (subst AreScalars e are)).1)

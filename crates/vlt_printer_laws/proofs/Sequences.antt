@@ -6,7 +6,8 @@ use Rattle.vlt_lexer.specs.declared.token.Mark.TheVariants.{Comma, OpenBrace, Cl
 use Rattle.vlt_lexer.specs.Spelling.{sign_text}
 use Rattle.vlt_syntax.specs.Lists.{each_then, further_then, listed_then, enclosed_then, Each}
 use Rattle.vlt_syntax.specs.Tokens.{Token, sign}
-use Rattle.vlt_printer.specs.Lists.{Layout, written, text, each_after, further_after, separated_after, enclosed_after, braced_after}
+use Rattle.vlt_base.specs.Layout.{Layout, written, text}
+use Rattle.vlt_printer.specs.Lists.{each_after, further_after, separated_after, enclosed_after, braced_after}
 use Rattle.vlt_printer_laws.proofs.Following.{Last, clear, signed, either, within, sign_may, comma_may}
 use Rattle.vlt_printer_laws.proofs.Steps.{Begins, weaker, sign_begins, text_begins, space, mark}
 

@@ -20,7 +20,7 @@ use Rattle.vlt_printer_laws.proofs.Following.{Last, clear, wordy, signed, Fits, 
 use Rattle.vlt_printer_laws.proofs.Longest.{name_longest, tick_longest, digits_longest, sign_longest}
 use Rattle.vlt_printer_laws.proofs.Spelled.{word_bytes, word_scalars, sign_bytes, sign_scalars, number_text, number_bytes}
 
--- `before` begins a text of all the tokens: behind it a text of the tokens `rest` gives one, if that may follow what `before` ends in.
+-- `before` begins a text of all the tokens: after it a text of the tokens `rest` gives one, if that may follow what `before` ends in.
 -- Each token of `rest` is one that a text can have.
 pub record Begins (all : List Token) (before : List ℕ) (rest : List Token) (last : Last) : Type 0 where
   pub goes_on : (after cs : List ℕ) → Readable after cs rest → Fits last cs → (ds : List ℕ) × Readable (before ++ after) ds all
@@ -126,7 +126,7 @@ bits_then (gap c ∷ bits) rest = bits_then bits rest
 bits_then (word w ∷ bits) rest = keyword w ∷ bits_then bits rest
 bits_then (mark m ∷ bits) rest = sign m ∷ bits_then bits rest
 
--- each part may stand behind the one before, and what may follow at last follows the text
+-- each part may stand after the one before, and what may follow at last follows the text
 abbrev pub fits_in : Last → List Bit → Last → Bool
 fits_in last [] next = within last next
 fits_in last (gap c ∷ bits) next = is_blank c && fits_in clear bits next

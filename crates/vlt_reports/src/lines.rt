@@ -4,7 +4,7 @@ ghost use Rattle.std.specs.Prelude.{◌≡◌, ◌<◌, ◌^◌, ◌-◌, not, l
 ghost use Rattle.vlt_base.specs.Place.{line_of, column_of};
 ghost use Rattle.vlt_core.specs.View.{program_of, func_of, tok_of};
 ghost use Rattle.vlt_core.specs.FaultView.{kind_of};
-ghost use Rattle.vlt_reports.specs.Reports.{place_text, kind_line, fault_text, fault_line};
+ghost use Rattle.vlt_reports.specs.Reports.{kind_line, fault_text, fault_line};
 ghost use Rattle.vlt_reports.specs.Accepted.{accepted_line, bodies};
 ghost use Rattle.vlt_reports.specs.Seen.{names_known};
 ghost use Rattle.vlt_reports.specs.Writing.{Adds};
@@ -15,7 +15,7 @@ use std::alloc::{AllocError, Global};
 use vlt_base::{Items, place};
 use vlt_core::{FaultKind, Func, Program, Tok};
 
-/// The line and the column of a byte; of one behind the text those of its end.
+/// The line and the column of a byte; of one after the text those of its end.
 pub fn place_within(text: &[u8], at: u32) -> (u32, u32)
     requires { length text.now < 2 ^ 32 - 1 }
     ensures line { result.0 ≡ line_of text.now at }

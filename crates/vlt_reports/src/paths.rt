@@ -1,7 +1,6 @@
 //! The lines of paths.
 
-ghost use Rattle.std.specs.Prelude.{◌≡◌, ◌<◌, ◌^◌, ◌-◌, length, map, IfOk};
-ghost use Rattle.std.specs.List.{flat_map};
+ghost use Rattle.std.specs.Prelude.{◌≡◌, ◌<◌, ◌^◌, ◌-◌, length, IfOk};
 ghost use Rattle.std.specs.Option.{option_map, option_copied};
 ghost use Rattle.vlt_core.specs.Lookups.{variant_of};
 ghost use Rattle.vlt_core.specs.View.{program_of, func_of, case_of};
@@ -103,7 +102,7 @@ fn instance(
     Ok(out)
 }
 
-/// The choices of a path, behind the words for its instance.
+/// The choices of a path, after the words for its instance.
 fn path(
     alloc: Global,
     text: &[u8],

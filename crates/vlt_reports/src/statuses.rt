@@ -44,7 +44,7 @@ fn named<'a>(
     Ok(found)
 }
 
-/// Adds names, each behind a comma.
+/// Adds names, each after a comma.
 fn add_further(out: &mut Vec<u8>, names: &[&[u8]]) -> Result<(), AllocError>
     ensures { Adds result out.old.items out.new.items
         (flat_map (λ n. codes "," ++ n) (map (λ n. n.now) names.now)) }

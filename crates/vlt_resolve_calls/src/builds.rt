@@ -1,6 +1,6 @@
 //! A tick with its payloads, for a target of a variant's type.
 
-ghost use Rattle.std.specs.Prelude.{◌≡◌, map, drop, option_map, length, slice_get, position, IfOk, OnOk, Some};
+ghost use Rattle.std.specs.Prelude.{◌≡◌, map, drop, option_map, position, IfOk, OnOk, Some};
 ghost use Rattle.std.specs.Str.{bytes_eq};
 ghost use Rattle.vlt_syntax.specs.View as tree;
 ghost use Rattle.vlt_core.specs.View.{ty_of, form_of, case_of, keys_of, type_of};
@@ -44,7 +44,7 @@ pub fn cases_of<'k>(kinds: &'k Kinds<'_>, t: TypeId) -> &'k [CaseDecl]
     cases_in(kinds.types.get(t.0 as usize))
 }
 
-/// The name of a case behind its `'`.
+/// The name of a case after its `'`.
 pub fn without_tick(tick: &[u8]) -> &[u8]
     ensures { result.now ≡ drop 1 tick.now }
 {

@@ -6,7 +6,7 @@ ghost use Rattle.vlt_syntax.specs.View as tree;
 ghost use Rattle.vlt_core.specs.Core as core;
 ghost use Rattle.vlt_core.specs.Lookups.{owns};
 ghost use Rattle.vlt_core.specs.Types as types;
-ghost use Rattle.vlt_core.specs.View.{ty_of, entry_of, func_of, form_of, var_of};
+ghost use Rattle.vlt_core.specs.View.{ty_of, entry_of, func_of, form_of};
 ghost use Rattle.vlt_kinds_types.specs.Names.Refusals.{least_from, refusal, refuse_if};
 ghost use Rattle.vlt_kinds.specs.Seen.{kinds_seen};
 ghost use Rattle.vlt_resolve_exprs.specs.Exprs.{number_of};

@@ -138,13 +138,13 @@ left_refused takes.Int t at = unfit (Some int) t at
 left_refused takes.Bool t at = unfit (Some bool) t at
 left_refused takes.Either t at = not_basic t at
 
--- an operator, behind what is refused in its operand of this type at this place
+-- an operator, after what is refused in its operand of this type at this place
 unfoldable pub unary_refused : Op → List Refusal → Option Ty → ℕ → List Refusal
 unary_refused o inner t at = inner ++ unfit (Some (type_given o)) t at
 
 unfoldable pub binary_refused : Op → List Refusal → Option Ty → ℕ → List Refusal → Option Ty → ℕ → List Refusal
-binary_refused o left t at right u behind =
-    (left ++ left_refused (row_of o).takes t at) ++ (right ++ unfit (operand_wanted (row_of o).takes t) u behind)
+binary_refused o left t at right u following =
+    (left ++ left_refused (row_of o).takes t at) ++ (right ++ unfit (operand_wanted (row_of o).takes t) u following)
 
 abbrev pub expr_refused : Kinds → Scope → s.Expr → List Refusal
 expr_refused kinds scope (s.number z at) = []

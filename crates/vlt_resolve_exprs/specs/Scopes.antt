@@ -93,9 +93,9 @@ with_focus_key scope n t = record scope {
 abbrev pub scope_inside : Scope → Scope
 scope_inside scope = record scope { block_keys = []; block_vars = [] }
 
--- the scope behind a block, of those before it and at its end
-abbrev pub scope_behind : (before last : Scope) → Scope
-scope_behind before last = record {
+-- the scope after a block, of those before it and at its end
+abbrev pub scope_after : (before last : Scope) → Scope
+scope_after before last = record {
   names = take (length before.names) last.names;
   keys = last.keys;
   vars = last.vars;

@@ -22,7 +22,7 @@ scope_seen x = record {
   block_vars = vars_of x.block_vars;
 }
 
--- the scope behind a block that covered this
+-- the scope after a block that covered this
 abbrev pub left_with : Outer → s.Scope → s.Scope
 left_with o last = record {
   names = take o.names last.names;

@@ -1,6 +1,6 @@
 //! Expressions.
 
-ghost use Rattle.std.specs.Prelude.{◌≡◌, map, option_map, length, IfOk, OnOk, Some, None, position, slice_get};
+ghost use Rattle.std.specs.Prelude.{◌≡◌, map, option_map, IfOk, OnOk, Some, None, position};
 ghost use Rattle.std.specs.Str.{bytes_eq};
 ghost use Rattle.vlt_ops.specs.Operator.{row_of};
 ghost use Rattle.vlt_syntax.specs.View as tree;
@@ -573,8 +573,8 @@ pub fn check_expr(
             let Operands { left, right } = operands.get();
             let given = check_expr(alloc, kinds, scope, left, found)?;
             let wanted = check_left_given(*op, left, given, found);
-            let behind = check_expr(alloc, kinds, scope, right, found)?;
-            check_fit(&wanted, &behind, place(right), found);
+            let following = check_expr(alloc, kinds, scope, right, found)?;
+            check_fit(&wanted, &following, place(right), found);
             Ok(Some(type_given(*op)))
         }
     }

@@ -1,7 +1,7 @@
 //! What is known where a statement stands.
 
 ghost use Rattle.std.specs.Prelude.{◌≡◌, [], ◌∷◌, ◌++◌, map, option_map, length, slice_get, IfOk, OnOk};
-ghost use Rattle.vlt_core.specs.View.{tok_of, ty_of, var_of};
+ghost use Rattle.vlt_core.specs.View.{tok_of, ty_of};
 ghost use Rattle.vlt_kinds.specs.Seen.{kinds_seen};
 ghost use Rattle.vlt_resolve_exprs.specs.Exprs.{number_of};
 ghost use Rattle.vlt_resolve_exprs.specs.Scopes as s;

@@ -103,16 +103,16 @@ unfolding declare_refused keyed_refused declared_refused hidden_right_refused de
 declare_few kinds scope ty x right at none few =
     let now = with_bound_key kinds scope ty in
     let t = declared_target kinds (binds_key scope ty) now ty in
-    let behind_key = no_right (bound_key_refused kinds scope ty) _ none in
-    let behind_type = no_right (type_refused kinds now ty) _ behind_key in
-    hidden_few kinds now right (Some t.ty) at (no_left (hidden_refused now (hides right (Some t.ty)) at) _ behind_type)
+    let after_key = no_right (bound_key_refused kinds scope ty) _ none in
+    let after_type = no_right (type_refused kinds now ty) _ after_key in
+    hidden_few kinds now right (Some t.ty) at (no_left (hidden_refused now (hides right (Some t.ty)) at) _ after_type)
     (keyed_few kinds scope ty (no_left (bound_key_refused kinds scope ty) _ none) few)
 
 assign_few : (kinds : Kinds) (scope : Scope) (x : Name) (right : Right) (at : ℕ) → assign_refused kinds scope x right at ≡ [] → StaysFew scope (assign_became kinds scope x right).1
 unfolding assign_refused assign_became
 assign_few kinds scope x right at none few =
-    let behind_name = no_right _ (hidden_refused scope (hides right (var_ty scope x.text)) at ++ right_refused kinds (with_hidden kinds scope right (var_ty scope x.text)) (assigned_target (var_ty scope x.text)) right) none in
-    hidden_few kinds scope right (var_ty scope x.text) at (no_left (hidden_refused scope (hides right (var_ty scope x.text)) at) _ behind_name) few
+    let following_name = no_right _ (hidden_refused scope (hides right (var_ty scope x.text)) at ++ right_refused kinds (with_hidden kinds scope right (var_ty scope x.text)) (assigned_target (var_ty scope x.text)) right) none in
+    hidden_few kinds scope right (var_ty scope x.text) at (no_left (hidden_refused scope (hides right (var_ty scope x.text)) at) _ following_name) few
 
 open_few : (scope : Scope) (o : Option (List Ty)) (x : Name) (vs : List Name) → StaysFew scope (opened_became scope o x vs).1
 open_few scope None x vs few = few
@@ -152,7 +152,7 @@ few_kept : (kinds : Kinds) → IsKept kinds StaysFew
 few_kept kinds = record {
   none = λ scope few. few;
   twice = λ a b c one two few. two (one few);
-  behind = λ scope last inside few. inside few;
+  following = λ scope last inside few. inside few;
   plain = plain_few kinds;
   focus = focus_few kinds;
   arm = λ scope ty tick vs none. arm_few scope (arm_case kinds ty tick) vs;

@@ -17,7 +17,7 @@ use Rattle.vlt_kinds_types.specs.declared.names.found.Refusal.{Refusal}
 use Rattle.vlt_kinds_types.specs.Names.Refusals.{least, least_from}
 use Rattle.vlt_resolve_laws.proofs.OfKindsLaws.Rows.{each_at}
 use Rattle.vlt_kinds.specs.Kinds.{Kinds, head_named, function_named}
-use Rattle.vlt_resolve_exprs.specs.Scopes.{Scope, var_ty, scope_inside, scope_behind}
+use Rattle.vlt_resolve_exprs.specs.Scopes.{Scope, var_ty, scope_inside, scope_after}
 use Rattle.vlt_resolve_exprs.specs.Exprs.{wanted_refused, type_of, core_expr, var_number, number_of}
 use Rattle.vlt_resolve_exprs.specs.Operands.{object_operand, operand_for, core_operand, core_operands, variable_in}
 use Rattle.vlt_resolve_calls.specs.Targets.{Target, value_form, core_value}
@@ -285,13 +285,13 @@ module _ (P : Token → Type 0) (test : core.Expr → Bool) (var_right : (v : �
           let ty = var_ty scope y.text in
           let u = unless_ok (least_from found (focus_refused kinds inside ty y k z)) _ r e in
           let a = then_ok (walk_stmts kinds (inside_focus around) (bound_scope inside ty k z) false ss) _ r u.1 in
-          subst (λ z. AreRightForms z.0) (same_ok (core.focus (var_number scope y) (length scope.vars) (block_made a.first (close.to - 1)) ∷ [], scope_behind scope a.first.1) r a.rest)
+          subst (λ z. AreRightForms z.0) (same_ok (core.focus (var_number scope y) (length scope.vars) (block_made a.first (close.to - 1)) ∷ [], scope_after scope a.first.1) r a.rest)
           (stmts_right (inside_focus around) (bound_scope inside ty k z) (room - 1) false ss a.first g.1 (_, h.1.1.1.1.1.1.1.1.1.1) a.one, tt)
 
       block_right : (around : Around) (scope : Scope) (room : ℕ) (b : Block) (r : core.Block × Scope) → IsBlock language room b → Spells P block_then b → walk_block kinds around scope b ≡ Ok r → all_in_block test r.0 ≡ true
       block_right around scope room (s.braced ss at) r g h e =
           let a = then_ok (walk_stmts kinds around (scope_inside scope) false ss) _ r e in
-          subst (λ z. all_in_block test z.0 ≡ true) (same_ok (block_made a.first (at.to - 1), scope_behind scope a.first.1) r a.rest) (stmts_right around (scope_inside scope) (room - 1) false ss a.first g.1 (_, h.1.1) a.one)
+          subst (λ z. all_in_block test z.0 ≡ true) (same_ok (block_made a.first (at.to - 1), scope_after scope a.first.1) r a.rest) (stmts_right around (scope_inside scope) (room - 1) false ss a.first g.1 (_, h.1.1) a.one)
 
       else_right : (around : Around) (scope : Scope) (room end : ℕ) (o : Else) (r : core.Block × Scope) → IsElse language room o → Spells P else_then o → walk_else kinds around scope end o ≡ Ok r → all_in_block test r.0 ≡ true
       else_right around scope room end s.nothing r g h e = subst (λ z. all_in_block test z.0 ≡ true) (same_ok (core.block core.done [] end, scope) r e) refl
@@ -316,7 +316,7 @@ module _ (P : Token → Type 0) (test : core.Expr → Bool) (var_right : (v : �
           let u = unless_ok (least_from None (arm_refused kinds (scope_inside scope) c tick vs)) _ a.first a.one in
           let y = then_ok (walk_stmts kinds around (arm_scope (scope_inside scope) c vs) false ss) _ a.first u.1 in
           let body = (after_enclosed P name_then (after_name P) _ _ vs _ h.1.1.1).1 in
-          let here : all_in_block test a.first.0.2 ≡ true = subst (λ z. all_in_block test z.0.2 ≡ true) (same_ok ((case_number c, arm_numbers (scope_inside scope) c vs, block_made y.first (close.to - 1)), scope_behind scope y.first.1) a.first y.rest)
+          let here : all_in_block test a.first.0.2 ≡ true = subst (λ z. all_in_block test z.0.2 ≡ true) (same_ok ((case_number c, arm_numbers (scope_inside scope) c vs, block_made y.first (close.to - 1)), scope_after scope y.first.1) a.first y.rest)
           (stmts_right around (arm_scope (scope_inside scope) c vs) (room - 1) false ss y.first g.0.1 (_, body.1) y.one) in
           let more = arms_right around a.first.1 room ty rest d.first g.1 (_, after_block P (s.braced ss close) _ body) d.one in
           subst (λ z. all_in_arms test (arms_made z.0) ≡ true) (same_ok (a.first.0 ∷ d.first.0, d.first.1) r d.rest)

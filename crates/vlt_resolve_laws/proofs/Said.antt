@@ -310,7 +310,7 @@ module _ (ds : List Decl) (p : Program) (described : Describes (file_of ds) p) (
   states_kept = record {
     none = λ scope e. e;
     twice = λ a b c x y e. y (x e);
-    behind = λ scope last x e. x e;
+    following = λ scope last x e. x e;
     plain = plain_says;
     focus = λ scope ty y k z none. focus_says scope ty k z;
     arm = λ scope ty tick vs none. arm_says scope ty tick vs;

@@ -24,7 +24,7 @@ use Rattle.vlt_resolve_exprs.specs.Operands.{operand_refused, core_operand}
 use Rattle.vlt_resolve_exprs.specs.Bindings.{too_many_keys, too_many_vars}
 use Rattle.vlt_resolve_calls.specs.Targets.{Target}
 
--- ---- keys behind a type's name
+-- ---- keys after a type's name
 
 -- a key whose object has to be of this type
 abbrev pub typed_refused : (given : Option ℕ) → (type : ℕ) → (tracked : Bool) → (at : ℕ) → List Refusal

@@ -1,6 +1,6 @@
 //! New objects: for a tracked target whose key is bound here, for an owning one, and adopted at once.
 
-ghost use Rattle.std.specs.Prelude.{◌≡◌, true, [], ◌++◌, ◌∷◌, not, map, option_map, IfOk, OnOk};
+ghost use Rattle.std.specs.Prelude.{◌≡◌, true, [], ◌++◌, ◌∷◌, map, option_map, IfOk, OnOk};
 ghost use Rattle.vlt_syntax.specs.View as tree;
 ghost use Rattle.vlt_core.specs.Core as core;
 ghost use Rattle.vlt_core.specs.View.{ty_of, keys_of, field_of, operand_of, type_of};

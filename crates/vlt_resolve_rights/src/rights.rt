@@ -1,8 +1,8 @@
 //! Right sides, for a target: what is refused in them, and what they become.
 
-ghost use Rattle.std.specs.Prelude.{◌≡◌, ◌∷◌, [], option_map, Some, map, IfOk, OnOk};
+ghost use Rattle.std.specs.Prelude.{◌≡◌, ◌∷◌, [], option_map, Some, IfOk, OnOk};
 ghost use Rattle.vlt_syntax.specs.View as tree;
-ghost use Rattle.vlt_core.specs.View.{ty_of, form_of};
+ghost use Rattle.vlt_core.specs.View.{ty_of};
 ghost use Rattle.vlt_kinds_types.specs.Names.Refusals.{least_from};
 ghost use Rattle.vlt_kinds.specs.Seen.{kinds_seen};
 ghost use Rattle.vlt_resolve_exprs.specs.Seen.{scope_seen};

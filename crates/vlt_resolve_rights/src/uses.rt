@@ -144,7 +144,7 @@ fn check_keys(shape: Option<&Shape>, scope: &Scope<'_>, keys: &[Name], found: &m
     }
 }
 
-/// What is refused at the name of a new object's type, and at the keys behind it.
+/// What is refused at the name of a new object's type, and at the keys after it.
 #[tactic(auto, using(vlt_kinds_types::proofs::OfNames::Least::least_of_both, vlt_kinds_types::proofs::OfNames::Least::each_is), unfolding(crate::specs::News::named_refused, crate::specs::News::uses_refused, vlt_kinds_types::specs::Types::named_uses))]
 pub fn check_named(kinds: &Kinds<'_>, scope: &Scope<'_>, named: &Named, found: &mut LeastRefusal)
     ensures { found.new.least ≡ least_from found.old.least

@@ -1,4 +1,4 @@
--- Declarations of variables and assignments: what is refused in them, what they become, and the scope behind them.
+-- Declarations of variables and assignments: what is refused in them, what they become, and the scope after them.
 use Rattle.std.specs.Prelude.{ℕ, Bool, false, not, if◌then◌else◌, List, [], ◌++◌, length, Option, Some, is_some}
 use Rattle.std.specs.Option.{option_map}
 use Rattle.vlt_syntax.specs.Tree as s
@@ -16,7 +16,7 @@ use Rattle.vlt_resolve_calls.specs.Targets.{Target}
 use Rattle.vlt_resolve_rights.specs.News.{uses_refused, hides, hidden_refused, with_hidden}
 use Rattle.vlt_resolve_rights.specs.Rights.{right_refused, right_forms}
 
--- what a statement becomes, and the scope behind it
+-- what a statement becomes, and the scope after it
 abbrev pub Became : Type 0
 Became = List Form × Scope
 
@@ -54,7 +54,7 @@ declared_ty kinds scope ty = core_ty kinds.file (key_number scope) ty
 abbrev pub declared_target : Kinds → (binds : Bool) → Scope → s.Ty → Target
 declared_target kinds binds scope ty = record { ty = declared_ty kinds scope ty; binds = binds }
 
--- behind the type: hidden ones, the variable, and the right side, in which the variable isn't in scope
+-- after the type: hidden ones, the variable, and the right side, in which the variable isn't in scope
 unfoldable pub hidden_right_refused : Kinds → Scope → Target → Name → Right → List Refusal
 hidden_right_refused kinds scope t x right = new_var_refused kinds scope x ++ right_refused kinds scope (Some t) right
 
@@ -63,7 +63,7 @@ declared_refused kinds scope t x right at =
     hidden_refused scope (hides right (Some t.ty)) at
     ++ hidden_right_refused kinds (with_hidden kinds scope right (Some t.ty)) t x right
 
--- behind the hidden variable of this number, if there is one
+-- after the hidden variable of this number, if there is one
 unfoldable pub declared_became : Kinds → (hidden : ℕ) → Scope → Target → Name → Right → Became
 declared_became kinds hidden scope t x right =
     (right_forms kinds scope (Some t) (length scope.vars) hidden right, with_var scope x.text t.ty)

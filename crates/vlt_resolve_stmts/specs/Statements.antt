@@ -1,4 +1,4 @@
--- Statements without blocks: what is refused in them, what they become, and the scope behind them.
+-- Statements without blocks: what is refused in them, what they become, and the scope after them.
 use Rattle.std.specs.Prelude.{ℕ, Bool, true, false, not, ◌&&◌, ◌==◌, if◌then◌else◌, List, [], ◌∷◌, ◌++◌, length, Option, Some, None, is_some, slice_get}
 use Rattle.std.specs.List.{list_any}
 use Rattle.vlt_syntax.specs.Tree as s

@@ -1,6 +1,6 @@
 //! Statements without blocks that bind nothing: `x.f = e`, `release`, `become` and `swap`.
 
-ghost use Rattle.std.specs.Prelude.{◌≡◌, ◌∷◌, [], map, option_map, IfOk, OnOk};
+ghost use Rattle.std.specs.Prelude.{◌≡◌, ◌∷◌, [], option_map, IfOk, OnOk};
 ghost use Rattle.vlt_syntax.specs.View as tree;
 ghost use Rattle.vlt_core.specs.View.{ty_of, form_of, field_of, keys_of};
 ghost use Rattle.vlt_kinds_types.specs.Names.Refusals.{least_from};

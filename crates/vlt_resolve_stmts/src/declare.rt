@@ -135,9 +135,9 @@ fn bind<'a>(
     Ok(())
 }
 
-/// Behind the hidden variable of this number: the variable, and the right side, in which it isn't in scope.
+/// Following the hidden variable of this number: the variable, and the right side, in which it isn't in scope.
 #[tactic(auto, using(vlt_kinds_types::proofs::OfNames::Least::least_of_both), unfolding(crate::specs::Declarations::hidden_right_refused, crate::specs::Declarations::declared_became))]
-fn declare_behind<'a>(
+fn declare_after<'a>(
     alloc: Global,
     kinds: &Kinds<'_>,
     scope: &mut Scope<'a>,
@@ -162,7 +162,7 @@ fn declare_behind<'a>(
     Ok(forms)
 }
 
-/// Behind the type: the hidden ones of the right side, and then the variable.
+/// Following the type: the hidden ones of the right side, and then the variable.
 #[tactic(auto, using(vlt_kinds_types::proofs::OfNames::Least::least_of_both), unfolding(crate::specs::Declarations::declared_refused, crate::specs::Declarations::hidden_became))]
 fn declare_target<'a>(
     alloc: Global,
@@ -185,7 +185,7 @@ fn declare_target<'a>(
     check_hidden(scope, value, Some(&target.ty), at, found);
     let hidden = next_var(scope)?;
     add_hidden(alloc, kinds, scope, value, Some(&target.ty))?;
-    declare_behind(alloc, kinds, scope, target, hidden, name, value, found)
+    declare_after(alloc, kinds, scope, target, hidden, name, value, found)
 }
 
 /// In the scope with the key that the type binds.
@@ -279,7 +279,7 @@ fn borrowed(ty: &Option<vlt_core::Ty>) -> Option<&vlt_core::Ty>
     }
 }
 
-/// The right side of an assignment to the variable `x` of this type, behind its hidden variable.
+/// The right side of an assignment to the variable `x` of this type, after its hidden variable.
 fn assign_right(
     alloc: Global,
     kinds: &Kinds<'_>,

@@ -1,6 +1,6 @@
 //! `return`.
 
-ghost use Rattle.std.specs.Prelude.{◌≡◌, ◌==◌, ◌&&◌, [], map, option_map, length, Some, IfOk, OnOk};
+ghost use Rattle.std.specs.Prelude.{◌≡◌, ◌==◌, ◌&&◌, [], map, option_map, Some, IfOk, OnOk};
 ghost use Rattle.std.specs.List.{list_any};
 ghost use Rattle.vlt_syntax.specs.View as tree;
 ghost use Rattle.vlt_core.specs.Lookups.{is_given_back};

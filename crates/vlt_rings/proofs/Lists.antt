@@ -213,8 +213,8 @@ module _ (next prev : List ℕ) (whole : AreInverse next prev) (h i q : ℕ) (at
   kept_in a [] b path na ni ma mi = neither next h i i q wh wi a ma na ∙ path
   kept_in a (c ∷ cs) b path na ni ma mi = (neither next h i i q wh wi a ma na ∙ path.0, kept_in c cs b path.1 ni.0 ni.1 mi.0 mi.1)
 
-  behind_in : (xs : List ℕ) → IsRing next h xs → IsOff i (h ∷ xs) → IsRing (slice_set (slice_set next h i) i q) h (i ∷ xs)
-  behind_in xs ring off = record { path = (first next h i i q wh wi other, by xs ring.path off.1 ring.apart.0); apart = ((λ s. other (sym s), ring.apart.0), (off.1, ring.apart.1)) }
+  after_in : (xs : List ℕ) → IsRing next h xs → IsOff i (h ∷ xs) → IsRing (slice_set (slice_set next h i) i q) h (i ∷ xs)
+  after_in xs ring off = record { path = (first next h i i q wh wi other, by xs ring.path off.1 ring.apart.0); apart = ((λ s. other (sym s), ring.apart.0), (off.1, ring.apart.1)) }
     where
       step : slice_get (slice_set (slice_set next h i) i q) i ≡ Some q
       step = second next h i i q wh wi
@@ -225,7 +225,7 @@ module _ (next prev : List ℕ) (whole : AreInverse next prev) (h i q : ℕ) (at
 
   pub is_inserted : IsInserted h i next (slice_set (slice_set next h i) i q)
   is_inserted = record {
-    behind = behind_in;
+    following = after_in;
     others = λ k xs ring oi oh. record { path = kept_in k xs k ring.path oi.0 oi.1 oh.0 oh.1; apart = ring.apart };
   }
 

@@ -120,7 +120,7 @@ module _ (ps qs : List Place) (next new : List ℕ) (c : ℕ) (p q : Place) (sor
           by (inl e) = subst (λ x. IsRing new (member x) []) (sym e) u.alone
           by (inr n) = u.others (member d) [] (sorted.alone d r (sym (change.others d n) ∙ at) is) ((λ e. n (member_same d c e)), tt)
 
-  -- it stands behind h
+  -- it stands after h
   pub inserted : (h : ℕ) → home p ≡ None → home q ≡ Some h → IsHead h → IsInserted h (member c) next new → AreSorted qs new
   inserted h none is is_head i = record { heads = heads; alone = alone }
     where
@@ -140,7 +140,7 @@ module _ (ps qs : List Place) (next new : List ℕ) (c : ℕ) (p q : Place) (sor
               here : HasMembers ps next h → HasMembers qs new h
               here m = record {
                 nodes = member c ∷ m.nodes;
-                ring = i.behind m.nodes m.ring (is_head c, off_nodes h m);
+                ring = i.following m.nodes m.ring (is_head c, off_nodes h m);
                 are = are;
                 all = λ d r at at_h. all d r at at_h (equal_or_not d c);
               }

@@ -96,7 +96,7 @@ pub record IsSettled (h : Places) : Type 0 where
 abbrev pub WasSet : (Place → Place) → ℕ → List Place → List Place → Type 0
 WasSet change c old new = (p : Place) → slice_get old c ≡ Some p → new ≡ slice_set old c (change p)
 
--- a node was taken out of its ring, and then it was put behind h
+-- a node was taken out of its ring, and then it was put after h
 pub record IsMoved (h i : ℕ) (old new : List ℕ) : Type 0 where
   pub between : List ℕ
   pub unlinked : IsUnlinked i old between

@@ -27,7 +27,7 @@ abbrev pub AreApart : List ℕ → Type 0
 AreApart [] = Unit {0}
 AreApart (x ∷ xs) = IsOff x xs × AreApart xs
 
--- a ring that begins at h, and the nodes behind h
+-- a ring that begins at h, and the nodes after h
 pub record IsRing (next : List ℕ) (h : ℕ) (xs : List ℕ) : Type 0 where
   pub path : Path next h xs h
   pub apart : AreApart (h ∷ xs)
@@ -48,7 +48,7 @@ pub record IsUnlinked (i : ℕ) (old new : List ℕ) : Type 0 where
   pub out : (h : ℕ) (xs ys : List ℕ) → IsRing old h (xs ++ i ∷ ys) → IsRing new h (xs ++ ys)
   pub others : (h : ℕ) (xs : List ℕ) → IsRing old h xs → IsOff i (h ∷ xs) → IsRing new h xs
 
--- i, which was alone, stands behind h
+-- i, which was alone, stands after h
 pub record IsInserted (h i : ℕ) (old new : List ℕ) : Type 0 where
-  pub behind : (xs : List ℕ) → IsRing old h xs → IsOff i (h ∷ xs) → IsRing new h (i ∷ xs)
+  pub following : (xs : List ℕ) → IsRing old h xs → IsOff i (h ∷ xs) → IsRing new h (i ∷ xs)
   pub others : (k : ℕ) (xs : List ℕ) → IsRing old k xs → IsOff i (k ∷ xs) → IsOff h (k ∷ xs) → IsRing new k xs

@@ -1,9 +1,9 @@
 //! Places, sorted into rings: the free ones, those about to be freed, and the children of each.
 
-ghost use Rattle.std.specs.Prelude.{◌≡◌, ◌≢◌, ◌↔◌, ◌<◌, ◌≤◌, ◌+◌, ◌*◌, ◌++◌, ◌∷◌, [], length, max, true, false, Some, None, IfOk, IfSome, IfNone, IsTrue, ℕ, slice_get, slice_set, vec_capacity};
-ghost use Rattle.vlt_rings.specs.Rings.{IsRing, IsWhole, IsUnlinked, IsInserted, next_of, room_of};
-ghost use Rattle.vlt_rings.specs.Places.{head, member, home, IsHead, IsMoved, IsSound, IsSettled, IsFresh, StandsIn, HasNone, WasSet, WasPushed, IsMarked, IsSameBut, count_of};
-ghost use Rattle.vlt_rings.specs.Things.{Thing, Things, IsAt, count_things, Hold, Holds, AreReleased, IsMadeOrFull, IsLiveAt, IsMadeAt, IsThereOrGone, IsParentOf, IsLoneAt, IsHungAt};
+ghost use Rattle.std.specs.Prelude.{◌≡◌, ◌≢◌, ◌↔◌, ◌<◌, ◌≤◌, ◌+◌, ◌*◌, ◌++◌, ◌∷◌, [], length, max, true, false, Some, None, IfOk, IfSome, IfNone, ℕ, slice_get, slice_set, vec_capacity};
+ghost use Rattle.vlt_rings.specs.Rings.{IsWhole, next_of, room_of};
+ghost use Rattle.vlt_rings.specs.Places.{member, IsHead, IsMoved, IsSound, IsSettled, IsFresh, StandsIn, HasNone, WasSet, WasPushed, IsMarked, IsSameBut, count_of};
+ghost use Rattle.vlt_rings.specs.Things.{Thing, Things, IsAt, Hold, Holds, AreReleased, IsMadeOrFull, IsLiveAt, IsMadeAt, IsThereOrGone, IsParentOf, IsLoneAt, IsHungAt};
 ghost use Rattle.vlt_rings.specs.declared.places.Place.{Place};
 ghost use Rattle.vlt_rings.specs.declared.places.Mark.TheVariants.{Free as Unused, Doomed as Lost, Live as Alive};
 

@@ -1,6 +1,6 @@
 //! Nodes in doubly linked rings: each node is in one ring, alone at first.
 
-ghost use Rattle.std.specs.Prelude.{◌≡◌, ◌≢◌, ◌<◌, ◌≤◌, ◌+◌, ◌++◌, ◌∷◌, [], ℕ, List, length, Some, slice_get, slice_set, vec_capacity, IfOk};
+ghost use Rattle.std.specs.Prelude.{◌≡◌, ◌≢◌, ◌<◌, ◌≤◌, ◌+◌, ◌++◌, ◌∷◌, [], ℕ, length, Some, slice_get, slice_set, vec_capacity, IfOk};
 ghost use Rattle.vlt_rings.specs.Rings.{IsRing, IsWhole, IsUnlinked, IsInserted, next_of, back_of};
 
 use std::alloc::{AllocError, Global};
@@ -97,7 +97,7 @@ impl Rings {
         put(&mut self.prev, i, i);
     }
 
-    /// Puts a node that is alone behind another one.
+    /// Puts a node that is alone after another one.
     pub fn insert(&mut self, h: u32, i: u32)
         requires whole { IsWhole self.old }
         requires within { h < length (next_of self.old) }

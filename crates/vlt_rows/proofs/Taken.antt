@@ -1,4 +1,4 @@
--- Rows behind rows.
+-- Rows after rows.
 use Rattle.std.proofs.Common.{◌≡◌, List, [], ◌∷◌, ◌++◌, inl, inr, refl, sym, subst, Result, Ok, Err}
 use Rattle.std.specs.Result.{IsErrAnd}
 use Rattle.vlt_core.specs.Maps.{Row}

@@ -7,7 +7,7 @@ ghost use Rattle.vlt_core.specs.Bodies.{flow_of, flow_of_block, flow_of_stmts, f
 ghost use Rattle.vlt_core.specs.Maps.{is_tok};
 ghost use Rattle.vlt_core.specs.View.{func_of, tok_of, form_of, block_of, stmts_of, arms_of};
 ghost use Rattle.vlt_core.specs.HeldView.{toks_of};
-ghost use Rattle.vlt_core.specs.Rows.{tokens_of, in_order};
+ghost use Rattle.vlt_core.specs.Rows.{tokens_of};
 ghost use Rattle.vlt_rows.specs.Unfit.{UnfitBy, HasManyTokens};
 ghost use Rattle.vlt_rows.specs.Instances.{program_in, func_in};
 ghost use Rattle.vlt_rows.specs.Made.{MakesForm, MakesBlock, MakesStmts, MakesArms};

@@ -1,14 +1,14 @@
 //! The rows of calls and returns.
 
-ghost use Rattle.std.specs.Prelude.{◌≡◌, ◌∷◌, [], Some, map, slice_get};
-ghost use Rattle.std.specs.Option.{option_map, option_copied};
+ghost use Rattle.std.specs.Prelude.{◌≡◌, ◌∷◌, [], Some, map};
+ghost use Rattle.std.specs.Option.{option_map};
 ghost use Rattle.vlt_core.specs.View.{program_of, func_of, operand_of, entry_of, keys_of, mode_of, states_of};
 ghost use Rattle.vlt_core.specs.HeldView.{wanted_of, toks_of};
 ghost use Rattle.vlt_core.specs.Maps.{wants_in, becomes_absent};
 ghost use Rattle.vlt_core.specs.Core.{call, return};
 ghost use Rattle.vlt_core.specs.Instances.{instance, entry_in};
 ghost use Rattle.vlt_core.specs.Lookups.{is_before, is_after, is_fresh};
-ghost use Rattle.vlt_core.specs.Rows.{rows_of, operand_rows, held_in, key_row, entry_row, entry_wanted, called_row, called_rows, target_rows, new_rows, given_back_rows, return_rows, tokens_of, on_option};
+ghost use Rattle.vlt_core.specs.Rows.{rows_of, held_in, key_row, entry_row, entry_wanted, called_row, called_rows, target_rows, new_rows, given_back_rows, return_rows, tokens_of};
 ghost use Rattle.vlt_rows.specs.Taking.{TookOrStopped};
 ghost use Rattle.vlt_rows.specs.Wide.{states_named};
 ghost use Rattle.vlt_rows.specs.Pieces.{entry_rows, callee_rows, value_rows, new_row, given_back_row, handed_back_rows};

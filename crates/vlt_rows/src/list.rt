@@ -1,6 +1,6 @@
 //! A list that takes rows, and the lists of each statement's rows in an instance.
 
-ghost use Rattle.std.specs.Prelude.{◌≡◌, [], map};
+ghost use Rattle.std.specs.Prelude.{◌≡◌, []};
 ghost use Rattle.std.specs.Option.{option_map};
 ghost use Rattle.vlt_core.specs.View.{form_of, expr_of, operand_of, vars_of};
 ghost use Rattle.vlt_core.specs.HeldView.{toks_of};

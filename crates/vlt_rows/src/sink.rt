@@ -102,7 +102,7 @@ impl From<vlt_base::Memory> for RowError {
 pub trait RowSink {
     ghost use Rattle.vlt_rows.specs.declared.sink.RowError.{RowError};
 
-    /// The row is taken: the value before and behind it.
+    /// The row is taken: the value before and after it.
     ghost takes: { Row → Self → Self → Type 0 };
     /// The row isn't taken.
     ghost stops: { Row → Self → RowError → Type 0 };

@@ -1,17 +1,15 @@
 //! The rows of statements.
 
-ghost use Rattle.std.specs.Prelude.{◌≡◌, ◌∷◌, [], ◌<◌, ◌==◌, Bool, Option, None, Some, map, slice_get};
-ghost use Rattle.std.specs.Option.{option_map, option_copied};
+ghost use Rattle.std.specs.Prelude.{◌≡◌, ◌∷◌, [], ◌<◌, ◌==◌, Option, None, Some, map};
 ghost use Rattle.std.specs.List.{flat_map};
 ghost use Rattle.vlt_base.specs.States.{has_state};
 ghost use Rattle.vlt_core.specs.View.{program_of, func_of, form_of, expr_of, operand_of, case_key_of, vars_of, keys_of};
 ghost use Rattle.vlt_core.specs.HeldView.{wanted_of, after_of};
-ghost use Rattle.vlt_core.specs.LookupViews.{variant_view};
 ghost use Rattle.vlt_core.specs.Core.{put, make, own, unpack, build, swap, open_into, adopt};
 ghost use Rattle.vlt_core.specs.Core.{a_key};
 ghost use Rattle.vlt_core.specs.Maps.{becomes_held, wants_absent, wants_held};
 ghost use Rattle.vlt_core.specs.Lookups.{variant_of, guarded_of, reference_of, release_set};
-ghost use Rattle.vlt_core.specs.Rows.{rows_of, simple_rows, arm_rows, focus_end_rows, tokens_of, on_key, row, key_row, on_option};
+ghost use Rattle.vlt_core.specs.Rows.{simple_rows, arm_rows, focus_end_rows, on_key, row, key_row};
 ghost use Rattle.vlt_rows.specs.Taking.{TookOrStopped};
 ghost use Rattle.vlt_rows.specs.Pieces.{unpacked_rows, case_rows, case_key_rows, switch_rows, focus_rows, own_rows};
 
@@ -350,7 +348,7 @@ pub fn give_focus<S: RowSink>(
     give_focused(p, f, z, to)
 }
 
-/// The rows of a focus's end, behind those of its block's end.
+/// The rows of a focus's end, after those of its block's end.
 pub fn give_focus_end<S: RowSink>(
     p: &Program,
     f: &Func,

@@ -53,7 +53,7 @@ pub enum Flow {
     Scope {
         body: FlowBlock,
     },
-    /// With the rows behind its body.
+    /// With the rows after its body.
     Focus {
         rows: Items<Row>,
         body: FlowBlock,

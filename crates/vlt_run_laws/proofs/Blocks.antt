@@ -9,7 +9,7 @@ use Rattle.vlt_core.specs.Derives.{toward, DerivesBlock}
 use Rattle.vlt_core.specs.KindedHeads.{has}
 use Rattle.vlt_core.specs.KindedScopes.{Ids, at_block_start, left_behind}
 use Rattle.vlt_core.specs.KindedOperands.{misfit, type_of_expr, expr_broken, value_broken}
-use Rattle.vlt_core.specs.KindedBodies.{in_loop, list_broken, block_rows, ids_behind_block, ids_behind_stmts}
+use Rattle.vlt_core.specs.KindedBodies.{in_loop, list_broken, block_rows, ids_following_block, ids_following_stmts}
 use Rattle.vlt_core_laws.specs.Scoped.{is_bound}
 use Rattle.vlt_core_laws.proofs.Ids.{bound_left, bound_right}
 use Rattle.vlt_core_laws.proofs.Listed.{listed_made}
@@ -49,11 +49,11 @@ pub record IsKnownBlock (p : Program) (f : Func) (b : Block) (frame : Frame) (w 
   pub site : Site
   pub ids : Ids
   pub map : HeldMap
-  pub behind : HeldMap
+  pub following : HeldMap
   pub extra : List Tok
   pub here : IsAt p f site ids
   pub kinded : IsKindedBlock p f site.around extra ids b
-  pub leads : DerivesBlock site.breaks site.turns map (flow_of_block p f site.left b) behind
+  pub leads : DerivesBlock site.breaks site.turns map (flow_of_block p f site.left b) following
   pub agrees : Agrees p f site.context map ids [] frame w.objects
   pub head : HasNamedHead f site.context
 
@@ -87,7 +87,7 @@ module _ (r : Setup) where
 
   pub block_good : (n : ℕ) → GoodLists r n → (f : Func) (b : Block) (frame : Frame) (w : World)
       (x : IsKnownBlock r.program f b frame w) (ts : List Task) →
-      Follows r n f ts (comes_to r.program f x.site x.behind (ids_behind_block r.program f b x.ids)) →
+      Follows r n f ts (comes_to r.program f x.site x.following (ids_following_block r.program f b x.ids)) →
       Good r n (enter_block f b ts frame w)
   block_good n lists f (block ss bound end) frame w x ts follows =
       lists f ss frame w
@@ -97,7 +97,7 @@ module _ (r : Setup) where
         site = inner;
         ids = at_block_start x.ids;
         map = x.map;
-        behind = x.leads.0;
+        following = x.leads.0;
         ended = false;
         here = record { entered = x.here.entered; scoped = entered_scoped x.here.scoped; outer = x.here.outer };
         kinded = x.kinded.rows;
@@ -106,12 +106,12 @@ module _ (r : Setup) where
         head = x.head;
       })
       (closing bound ∷ ts)
-      (λ a safe. closing_good n f bound ts a (comes_to r.program f x.site x.behind (left_behind x.ids last)) follows
-      (end_safe (comes_to r.program f inner x.leads.0 last) (comes_to r.program f x.site x.behind (left_behind x.ids last)) bound a safe
+      (λ a safe. closing_good n f bound ts a (comes_to r.program f x.site x.following (left_behind x.ids last)) follows
+      (end_safe (comes_to r.program f inner x.leads.0 last) (comes_to r.program f x.site x.following (left_behind x.ids last)) bound a safe
       (λ frame w now. (
         unused w now bound owning x.leads.2,
         agrees_in (left_behind x.ids last) (λ u e. grown.vars u e)
-            (agrees_below (subst (λ m. IsBelow m x.behind) (gone_passed bound x.leads.0 x.leads.2) x.leads.3) now),
+            (agrees_below (subst (λ m. IsBelow m x.following) (gone_passed bound x.leads.0 x.leads.2) x.leads.3) now),
       ))
       (λ c frame w jumped. (
         unused w jumped.agrees bound owning
@@ -126,7 +126,7 @@ module _ (r : Setup) where
       (λ v kept w left. record { allowed = left.allowed; returned = left.returned })))
     where
       last : Ids
-      last = ids_behind_stmts r.program f ss (at_block_start x.ids)
+      last = ids_following_stmts r.program f ss (at_block_start x.ids)
 
       inner : Site
       inner = record x.site { left = x.site.left ++ bound }
@@ -149,7 +149,7 @@ module _ (r : Setup) where
         site = x.site;
         ids = x.ids;
         map = x.map;
-        behind = x.behind;
+        following = x.following;
         extra = [];
         here = x.here;
         kinded = record { listed = x.kinded.row; rows = x.kinded.rows };
@@ -172,21 +172,21 @@ module _ (r : Setup) {f : Func} (typed : IsTyped r.program f) {c : Context} {h :
       (λ v read. wanted_number r.program (scene c w.objects agrees.heads) frame.keys bool (type_of_expr r.program f e) v refl both.1 read)
       (λ z. refl)
 
-block_vars : (p : Program) (f : Func) (b : Block) (ids : Ids) → (ids_behind_block p f b ids).vars ≡ ids.vars
+block_vars : (p : Program) (f : Func) (b : Block) (ids : Ids) → (ids_following_block p f b ids).vars ≡ ids.vars
 block_vars p f (block ss bound end) ids = refl
 
 module _ (r : Setup) (typed : (i : ℕ) (f : Func) → IsInstanceOf r.program i f → IsTyped r.program f) where
   pub choose_good : (n : ℕ) → AllLists r n → (f : Func) (e : Expr) (a b : Block) → GoodForm r n f (choose e a b)
   choose_good n all f e a b frame w x ts follows =
-      let ids2 = ids_behind_block r.program f a x.ids in
+      let ids2 = ids_following_block r.program f a x.ids in
       let s2 = both_empty (value_broken r.program f x.ids (Some bool) e ++ list_broken r.program f [] x.ids a) (list_broken r.program f [] ids2 b) x.kinded.row in
       let s1 = both_empty (value_broken r.program f x.ids (Some bool) e) (list_broken r.program f [] x.ids a) s2.0 in
       let rows_a = none_left (block_rows r.program f x.site.around x.ids a) (block_rows r.program f x.site.around ids2 b) x.kinded.rows in
       let rows_b = none_right (block_rows r.program f x.site.around x.ids a) (block_rows r.program f x.site.around ids2 b) x.kinded.rows in
       let same = stays_passed (expr_rows r.program f e) x.map (expr_stays r.program f e) in
       let vars_a : ids2.vars ≡ x.ids.vars = block_vars r.program f a x.ids in
-      let vars_b : (ids_behind_block r.program f b ids2).vars ≡ ids2.vars = block_vars r.program f b ids2 in
-      let G = comes_to r.program f x.site x.behind (ids_behind_block r.program f b ids2) in
+      let vars_b : (ids_following_block r.program f b ids2).vars ≡ ids2.vars = block_vars r.program f b ids2 in
+      let G = comes_to r.program f x.site x.following (ids_following_block r.program f b ids2) in
       found_good r (number_of r.program f e frame w.objects) f ts w _ n G follows
       (condition_fine r (typed x.position f x.function) w x.agrees G e s1.0 x.leads.0)
       (λ z. if_good r n (is_true z) (enter_block f a ts frame w) (enter_block f b ts frame w)
@@ -197,16 +197,16 @@ module _ (r : Setup) (typed : (i : ℕ) (f : Func) → IsInstanceOf r.program i 
         site = x.site;
         ids = x.ids;
         map = x.map;
-        behind = x.behind;
+        following = x.following;
         extra = [];
         here = x.here;
         kinded = record { listed = s1.1; rows = rows_a };
-        leads = subst (λ m. DerivesBlock x.site.breaks x.site.turns m (flow_of_block r.program f x.site.left a) x.behind) same x.leads.1;
+        leads = subst (λ m. DerivesBlock x.site.breaks x.site.turns m (flow_of_block r.program f x.site.left a) x.following) same x.leads.1;
         agrees = x.agrees;
         head = x.head;
       }) ts
-      (λ q safe. follows q (weaker (comes_to r.program f x.site x.behind ids2) G q
-      (λ frame w now. agrees_in (ids_behind_block r.program f b ids2) (λ u i. ap (λ vs. has vs u) (sym vars_b) ∙ i) now)
+      (λ q safe. follows q (weaker (comes_to r.program f x.site x.following ids2) G q
+      (λ frame w now. agrees_in (ids_following_block r.program f b ids2) (λ u i. ap (λ vs. has vs u) (sym vars_b) ∙ i) now)
       (λ c frame w jumped. jumped) (λ v kept w left. left) safe)))
       (block_good r n (lists_now r n all) f b frame w
       (record {
@@ -215,7 +215,7 @@ module _ (r : Setup) (typed : (i : ℕ) (f : Func) → IsInstanceOf r.program i 
         site = x.site;
         ids = ids2;
         map = x.map;
-        behind = x.behind;
+        following = x.following;
         extra = [];
         here = record {
           entered = x.here.entered;
@@ -223,7 +223,7 @@ module _ (r : Setup) (typed : (i : ℕ) (f : Func) → IsInstanceOf r.program i 
           outer = λ v e. (block_widens r.program f a x.ids).vars v (x.here.outer v e);
         };
         kinded = record { listed = s2.1; rows = rows_b };
-        leads = subst (λ m. DerivesBlock x.site.breaks x.site.turns m (flow_of_block r.program f x.site.left b) x.behind) same x.leads.2;
+        leads = subst (λ m. DerivesBlock x.site.breaks x.site.turns m (flow_of_block r.program f x.site.left b) x.following) same x.leads.2;
         agrees = agrees_in ids2 (λ u i. ap (λ vs. has vs u) (sym vars_a) ∙ i) x.agrees;
         head = x.head;
       }) ts follows))
@@ -232,21 +232,21 @@ module _ (r : Setup) (typed : (i : ℕ) (f : Func) → IsInstanceOf r.program i 
 
   module _ (f : Func) (e : Expr) (b : Block) {frame0 : Frame} {w0 : World} (x : IsKnown r.program f (loop e b) frame0 w0) (ts : List Task) where
     abbrev ids2 : Ids
-    ids2 = ids_behind_block r.program f b x.ids
+    ids2 = ids_following_block r.program f b x.ids
 
     -- the map at the beginning of each turn
     abbrev each : HeldMap
     each = x.leads.0
 
     abbrev G : Goal
-    G = comes_to r.program f x.site x.behind ids2
+    G = comes_to r.program f x.site x.following ids2
 
     abbrev body : Site
     body = record {
       context = x.site.context;
       around = in_loop x.site.around;
       left = [];
-      breaks = x.behind;
+      breaks = x.following;
       turns = each;
       outer = x.ids;
     }
@@ -285,7 +285,7 @@ module _ (r : Setup) (typed : (i : ℕ) (f : Func) → IsInstanceOf r.program i 
         let s1 = both_empty (value_broken r.program f x.ids (Some bool) e) (list_broken r.program f [] x.ids b) x.kinded.row in
         let stays = stays_passed (expr_rows r.program f e) each (expr_stays r.program f e) in
         let w1 = record w { fuel = w.fuel - 1 } in
-        let behind = agrees_below (subst (λ m. IsBelow m x.behind) stays x.leads.3) now in
+        let following = agrees_below (subst (λ m. IsBelow m x.following) stays x.leads.3) now in
         spend_good r n f ts w _ G follows
         (found_good r (number_of r.program f e frame w.objects) f ts w1 _ n G follows
         (condition_fine r (typed x.position f x.function) w1 now G e s1.0 x.leads.2)
@@ -297,15 +297,15 @@ module _ (r : Setup) (typed : (i : ℕ) (f : Func) → IsInstanceOf r.program i 
           site = body;
           ids = x.ids;
           map = each;
-          behind = each;
+          following = each;
           extra = [];
           here = record { entered = x.here.entered; scoped = x.here.scoped; outer = λ v e. e };
           kinded = record { listed = s1.1; rows = x.kinded.rows };
-          leads = subst (λ m. DerivesBlock x.behind each m (flow_of_block r.program f [] b) each) stays x.leads.4;
+          leads = subst (λ m. DerivesBlock x.following each m (flow_of_block r.program f [] b) each) stays x.leads.4;
           agrees = now;
           head = x.head;
         }) (turn e b ∷ ts) (λ a safe. tasks_good n follows again a safe))
-        (follows (goes frame w1) (agrees_in ids2 (λ u i. ap (λ vs. has vs u) (sym vars) ∙ i) behind))))
+        (follows (goes frame w1) (agrees_in ids2 (λ u i. ap (λ vs. has vs u) (sym vars) ∙ i) following))))
 
     turns_good : (n : ℕ) → AllLists r n → Follows r n f ts G → (frame : Frame) (w : World) →
         Agrees r.program f x.site.context each x.ids [] frame w.objects → Good r n (turn_on r f e b ts frame w)

@@ -77,7 +77,7 @@ module _ (p : Program) (kinded : IsKinded p) (sizes : HasSizes p) (filled : HasS
         let A = operands_rows p f args in
         let B = called_rows p f keys g.clause in
         let C = target_rows f target in
-        let all : CanPass (A ++ B ++ C) x.map × IsBelow (map_after (A ++ B ++ C) x.map) x.behind = subst (λ o. CanPass (A ++ on_option o (λ g. called_rows p f keys g.clause) ++ C) x.map × IsBelow (map_after (A ++ on_option o (λ g. called_rows p f keys g.clause) ++ C) x.map) x.behind) at x.leads in
+        let all : CanPass (A ++ B ++ C) x.map × IsBelow (map_after (A ++ B ++ C) x.map) x.following = subst (λ o. CanPass (A ++ on_option o (λ g. called_rows p f keys g.clause) ++ C) x.map × IsBelow (map_after (A ++ on_option o (λ g. called_rows p f keys g.clause) ++ C) x.map) x.following) at x.leads in
         (pass_split A B x.map (pass_split (A ++ B) C x.map all.0).0).0
 
     names : (values : List Value) (after : Frame) (v : World) → g.external ≡ true → operands_got p f args frame w ≡ got values after v →

@@ -12,7 +12,7 @@ use Rattle.vlt_sound_calls.specs.ReturnHeads.{HasHostHead, HasHosts}
 use Rattle.vlt_sound_calls.proofs.Narrowing.{narrowed}
 use Rattle.vlt_sound_calls.proofs.Instanced.{typed_instance, head_instance, meet_instance, callee_same, with_target_same, host_instance}
 use Rattle.vlt_core.specs.Rows.{on_option, operands_rows, clause_rows, called_rows, target_rows}
-use Rattle.vlt_core.specs.KindedBodies.{first_ids, stmts_rows, body_rows, ids_behind_stmts}
+use Rattle.vlt_core.specs.KindedBodies.{first_ids, stmts_rows, body_rows, ids_following_stmts}
 use Rattle.vlt_core.specs.KindedCalls.{call_broken, call_target_broken, with_call_target}
 use Rattle.vlt_meaning.specs.World.{Value, World, Frame, depth_end, fuel_end, missing}
 use Rattle.vlt_meaning.specs.Found.{Found, or_fault}
@@ -153,7 +153,7 @@ module _ (r : Setup) (kinded : IsKinded r.program) (accepted : IsAccepted r.prog
 
   module _ (f : Func) (i : ℕ) (target : Option ℕ) (keys : List ℕ) (args : List Operand) {frame : Frame} {w : World}
       (x : IsKnown r.program f (call i target keys args) frame w) (ts : List Task) (g : Func) (known : slice_get r.program.fns i ≡ Some g)
-      (follows : Follows r n f ts (comes_to r.program f x.site x.behind (with_call_target f (Some g) target x.ids))) where
+      (follows : Follows r n f ts (comes_to r.program f x.site x.following (with_call_target f (Some g) target x.ids))) where
     abbrev types : List Ty
     types = argument_types g keys
 
@@ -166,8 +166,8 @@ module _ (r : Setup) (kinded : IsKinded r.program) (accepted : IsAccepted r.prog
     unbroken : call_broken r.program f x.ids (Some g) target keys args ≡ []
     unbroken = subst (λ o. call_broken r.program f x.ids o target keys args ≡ []) known x.kinded.row
 
-    leads : CanPass (operands ++ clause ++ target_rows f target) x.map × IsBelow (map_after (operands ++ clause ++ target_rows f target) x.map) x.behind
-    leads = subst (λ o. CanPass (operands ++ on_option o (λ g. called_rows r.program f keys g.clause) ++ target_rows f target) x.map × IsBelow (map_after (operands ++ on_option o (λ g. called_rows r.program f keys g.clause) ++ target_rows f target) x.map) x.behind) known x.leads
+    leads : CanPass (operands ++ clause ++ target_rows f target) x.map × IsBelow (map_after (operands ++ clause ++ target_rows f target) x.map) x.following
+    leads = subst (λ o. CanPass (operands ++ on_option o (λ g. called_rows r.program f keys g.clause) ++ target_rows f target) x.map × IsBelow (map_after (operands ++ on_option o (λ g. called_rows r.program f keys g.clause) ++ target_rows f target) x.map) x.following) known x.leads
 
     same_map : map_after (operands ++ clause ++ target_rows f target) x.map ≡ map_after (target_rows f target) (map_after clause (map_after operands x.map))
     same_map = passed_split (operands ++ clause) (target_rows f target) x.map ∙ ap (map_after (target_rows f target)) (passed_split operands clause x.map)
@@ -179,7 +179,7 @@ module _ (r : Setup) (kinded : IsKinded r.program) (accepted : IsAccepted r.prog
     G = goes_to r.program f x.site.context (map_after (target_rows f target) (map_after clause (map_after operands x.map))) (with_call_target f (Some g) target x.ids) []
 
     abbrev C : Goal
-    C = comes_to r.program f x.site x.behind (with_call_target f (Some g) target x.ids)
+    C = comes_to r.program f x.site x.following (with_call_target f (Some g) target x.ids)
 
     -- the call of a function with a plain clause, whose arguments are handed over
     module _ (h : Func) (K : HeldMap) (values : List Value) (frame' : Frame) (w' : World) (many : length values ≡ length (argument_types h keys))
@@ -188,14 +188,14 @@ module _ (r : Setup) (kinded : IsKinded r.program) (accepted : IsAccepted r.prog
         (new : IsFreshCall f x.site.context h x.ids keys) (broken : call_target_broken f x.ids h keys target ≡ [])
         (pass : CanPass (clause_rows r.program f keys h.clause) K)
         (rows : CanPass (target_rows f target) (map_after (clause_rows r.program f keys h.clause) K))
-        (below : IsBelow (map_after (target_rows f target) (map_after (clause_rows r.program f keys h.clause) K)) x.behind)
+        (below : IsBelow (map_after (target_rows f target) (map_after (clause_rows r.program f keys h.clause) K)) x.following)
         (same : with_call_target f (Some h) target x.ids ≡ with_call_target f (Some g) target x.ids) where
       abbrev H : Goal
       H = goes_to r.program f x.site.context (map_after (target_rows f target) (map_after (clause_rows r.program f keys h.clause) K)) (with_call_target f (Some h) target x.ids) []
 
       onward : (a : Step) → Safe H a → Safe C a
       onward a safe =
-          weaker H C a (λ fr v now. subst (λ ids. Agrees r.program f x.site.context x.behind ids [] fr v.objects) same (agrees_below below now))
+          weaker H C a (λ fr v now. subst (λ ids. Agrees r.program f x.site.context x.following ids [] fr v.objects) same (agrees_below below now))
           (λ c fr v never. absurd never) (λ v kept u never. absurd never) safe
 
       -- the site of the callee's body
@@ -223,7 +223,7 @@ module _ (r : Setup) (kinded : IsKinded r.program) (accepted : IsAccepted r.prog
             site = site;
             ids = first_ids r.program h;
             map = start_map r.program h;
-            behind = body.2.1.0;
+            following = body.2.1.0;
             ended = false;
             here = record {
               entered = callee_entered h keys values now many fits typed typed_callee head x.here.entered x.here.scoped pass;
@@ -240,7 +240,7 @@ module _ (r : Setup) (kinded : IsKinded r.program) (accepted : IsAccepted r.prog
           follows _ (onward _
           (subst (λ q. Safe H (back_in f target keys h frame' q)) (sym left)
           (left_safe w' now h keys fits new head typed x.here.entered x.here.scoped pass u
-          (subst (Safe (comes_to r.program h site body.2.1.0 (ids_behind_stmts r.program h h.body (first_ids r.program h)))) left safe).returned target broken rows)))))))
+          (subst (Safe (comes_to r.program h site body.2.1.0 (ids_following_stmts r.program h h.body (first_ids r.program h)))) left safe).returned target broken rows)))))))
         where
           by : (b : Bool) (c : Conf) → Good r n c → Good r n (if b then c else at f ts (ends depth_end w'))
           by true c good = good
@@ -257,7 +257,7 @@ module _ (r : Setup) (kinded : IsKinded r.program) (accepted : IsAccepted r.prog
     called_enters : (values : List Value) (frame' : Frame) (w' : World) → length values ≡ length types →
         Agrees r.program f x.site.context (map_after operands x.map) x.ids (handed_values types values) frame' w'.objects →
         CanPass clause (map_after operands x.map) → CanPass (target_rows f target) (map_after clause (map_after operands x.map)) →
-        IsBelow (map_after (target_rows f target) (map_after clause (map_after operands x.map))) x.behind →
+        IsBelow (map_after (target_rows f target) (map_after clause (map_after operands x.map))) x.following →
         Good r n (enter_by g.external r f target keys (called_instance r.program g keys frame' w'.objects) values ts frame' w')
     called_enters values frame' w' many now pass rows below =
         let p = r.program in
@@ -295,7 +295,7 @@ module _ (r : Setup) (kinded : IsKinded r.program) (accepted : IsAccepted r.prog
         let last = pass_split (operands ++ clause) (target_rows f target) x.map leads.0 in
         let first = pass_split operands clause x.map last.0 in
         let rows = subst (CanPass (target_rows f target)) (passed_split operands clause x.map) last.1 in
-        let below = subst (λ m. IsBelow m x.behind) same_map leads.1 in
+        let below = subst (λ m. IsBelow m x.following) same_map leads.1 in
         any_so r n (length args == g.params) f ts w _
         (got_good r n Handing (operands_got r.program f args frame w) f ts _
         (subst (Safe (telling Handing)) (operands_step r.program f args frame w (λ values frame w. goes (with_all values frame) w))
@@ -310,4 +310,4 @@ module _ (r : Setup) (kinded : IsKinded r.program) (accepted : IsAccepted r.prog
       any_found r n (or_fault missing (slice_get r.program.fns i)) f ts w _ (λ g is.
       let known = func_is (slice_get r.program.fns i) g is in
       enters f i target keys args x ts g known
-      (subst (λ o. Follows r n f ts (comes_to r.program f x.site x.behind (with_call_target f o target x.ids))) known follows))
+      (subst (λ o. Follows r n f ts (comes_to r.program f x.site x.following (with_call_target f o target x.ids))) known follows))

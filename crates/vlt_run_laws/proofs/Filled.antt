@@ -11,7 +11,7 @@ use Rattle.vlt_core.specs.KindedScopes.{Ids}
 use Rattle.vlt_meaning.specs.World.{Value, Object, Frame}
 use Rattle.vlt_sound_worlds.specs.Members.{In}
 use Rattle.vlt_sound_worlds.specs.Agrees.{HasVar, InScope, Handed, Context, Agrees}
-use Rattle.vlt_sound_worlds.proofs.Rows.{row_here, row_other, stays_passed, touch_stays, expr_stays, pass_split, pass_behind}
+use Rattle.vlt_sound_worlds.proofs.Rows.{row_here, row_other, stays_passed, touch_stays, expr_stays, pass_split, pass_after}
 use Rattle.vlt_sound_worlds.proofs.Owning.{full_is}
 use Rattle.vlt_run_laws.specs.Loose.{moved_by_operands, moved_by_simple, moved_vars}
 
@@ -75,7 +75,7 @@ module _ (p : Program) (f : Func) (v : ℕ) where
   simple_full (unpack x u) h pass i = here u h i (full_is (h (a_var u)) pass.0)
   simple_full (swap x position u) h pass i =
       here u h i (full_is (h (a_var u))
-      (pass_behind (touch_rows p f x position) (row (a_var u) wants_full becomes_full ∷ []) h (touch_stays p f x position) pass).1.0)
+      (pass_after (touch_rows p f x position) (row (a_var u) wants_full becomes_full ∷ []) h (touch_stays p f x position) pass).1.0)
   simple_full (set x e) h pass i = absurd i
   simple_full (input x more) h pass i = absurd i
   simple_full (print e) h pass i = absurd i

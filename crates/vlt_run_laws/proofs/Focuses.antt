@@ -30,7 +30,7 @@ unfocus_good r (suc n) f g q m k ts a goal follows safe =
 module _ (r : Setup) (n : ℕ) (all : AllLists r n) (f : Func) (typed : IsTyped r.program f) (keyed : HasKeys f) where
   pub focus_good : (y z : ℕ) (b : Block) → GoodForm r n f (focus y z b)
   focus_good y z b frame w x ts follows =
-      let q = focus_at r.program f y z b x.site x.map x.behind x.ids frame w x.here x.kinded x.leads x.agrees in
+      let q = focus_at r.program f y z b x.site x.map x.following x.ids frame w x.here x.kinded x.leads x.agrees in
       let guard = guard_named r f typed keyed q in
       let object = object_named r f typed keyed q in
       known_found r n (or_fault missing (guarded_of f y)) (guard_is r f typed keyed q) (ap (or_fault missing) (guarded_known r f typed keyed q)) f ts w _
@@ -44,7 +44,7 @@ module _ (r : Setup) (n : ℕ) (all : AllLists r n) (f : Func) (typed : IsTyped 
         site = focus_site r f typed keyed q;
         ids = with_focus f z x.ids;
         map = map_after (begin_rows r.program q.fact) x.map;
-        behind = q.last;
+        following = q.last;
         extra = [];
         here = focus_here r f typed keyed q;
         kinded = q.block;

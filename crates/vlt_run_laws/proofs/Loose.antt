@@ -206,5 +206,5 @@ moves_loose_objects p kinded accepted sizes filled narrow r c form frame w v sam
     let x = knows_its_steps p kinded accepted sizes filled narrow r c form frame w same reached before in
     let in_use = form_used p c.func x.ids v x.site.around form x.kinded.row moved in
     let known = used c.func x.ids v in_use in
-    let value = has_value p c.func v x.agrees known.ty known.is known.scoped x.site.breaks x.site.turns x.behind x.site.left form moved x.leads in
+    let value = has_value p c.func v x.agrees known.ty known.is known.scoped x.site.breaks x.site.turns x.following x.site.left form moved x.leads in
     record { value = value.0; has = value.1; loose = λ n i. loose_for x.agrees v value.0 value.1 n i in_use }

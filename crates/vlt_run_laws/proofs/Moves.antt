@@ -8,7 +8,7 @@ use Rattle.vlt_core.specs.Derives.{DerivesStmts}
 use Rattle.vlt_core.specs.KindedHeads.{unless}
 use Rattle.vlt_core.specs.declared.rules.TheConstants as rule
 use Rattle.vlt_core.specs.KindedScopes.{Ids}
-use Rattle.vlt_core.specs.KindedBodies.{row_broken, form_rows, stmts_rows, ids_behind, ids_behind_stmts, ends as ends_list}
+use Rattle.vlt_core.specs.KindedBodies.{row_broken, form_rows, stmts_rows, ids_following, ids_following_stmts, ends as ends_list}
 use Rattle.vlt_meaning.specs.World.{Value, World, Frame, Outcome}
 use Rattle.vlt_meaning.specs.Step.{Step, goes, jumps, leaves, ends}
 use Rattle.vlt_meaning.specs.Run.{Setup}
@@ -48,17 +48,17 @@ pub record AreKnown (p : Program) (f : Func) (ss : Stmts) (frame : Frame) (w : W
   pub site : Site
   pub ids : Ids
   pub map : HeldMap
-  pub behind : HeldMap
+  pub following : HeldMap
   pub ended : Bool
   pub here : IsAt p f site ids
   pub kinded : AreKinded p f site.around ids ended ss
-  pub leads : DerivesStmts site.breaks site.turns map (flow_of_stmts p f site.left ss) behind
+  pub leads : DerivesStmts site.breaks site.turns map (flow_of_stmts p f site.left ss) following
   pub agrees : Agrees p f site.context map ids [] frame w.objects
   pub head : HasNamedHead f site.context
 
 abbrev pub GoodLists : Setup → ℕ → Type 0
 GoodLists r n = (f : Func) (ss : Stmts) (frame : Frame) (w : World) (x : AreKnown r.program f ss frame w) (ts : List Task) →
-    Follows r n f ts (comes_to r.program f x.site x.behind (ids_behind_stmts r.program f ss x.ids)) →
+    Follows r n f ts (comes_to r.program f x.site x.following (ids_following_stmts r.program f ss x.ids)) →
     Good r n (at f (list ss ∷ ts) (goes frame w))
 
 -- of so many moves and of each number below
@@ -68,7 +68,7 @@ AllLists r (suc n) = GoodLists r (suc n) × AllLists r n
 
 abbrev pub GoodForm : Setup → ℕ → Func → Form → Type 0
 GoodForm r n f form = (frame : Frame) (w : World) (x : IsKnown r.program f form frame w) (ts : List Task) →
-    Follows r n f ts (comes_to r.program f x.site x.behind (ids_behind r.program f form x.ids)) →
+    Follows r n f ts (comes_to r.program f x.site x.following (ids_following r.program f form x.ids)) →
     Good r n (act r f form ts frame w)
 
 -- ---- moves
@@ -127,7 +127,7 @@ module _ (r : Setup) (f : Func) (ss : Stmts) (ts : List Task) where
 module _ (r : Setup) (kinded : IsKinded r.program) {f : Func} {place : ℕ} {form : Form} {rest : Stmts} {frame : Frame} {w : World}
     (x : AreKnown r.program f (next place form rest) frame w) where
   abbrev first_row : row_broken r.program f x.site.around x.ids form ≡ []
-  first_row = (both_empty (unless (not x.ended) rule.BEHIND_END) (row_broken r.program f x.site.around x.ids form) x.kinded.0).1
+  first_row = (both_empty (unless (not x.ended) rule.AFTER_END) (row_broken r.program f x.site.around x.ids form) x.kinded.0).1
 
   abbrev pub first_known : IsKnown r.program f form frame w
   first_known = record {
@@ -136,13 +136,13 @@ module _ (r : Setup) (kinded : IsKinded r.program) {f : Func} {place : ℕ} {for
     site = x.site;
     ids = x.ids;
     map = x.map;
-    behind = x.leads.0;
+    following = x.leads.0;
     here = x.here;
     kinded = record {
       row = first_row;
       rows =
           none_left (form_rows r.program f x.site.around x.ids form)
-          (stmts_rows r.program f x.site.around (ids_behind r.program f form x.ids) (ends_list form) rest) x.kinded.1;
+          (stmts_rows r.program f x.site.around (ids_following r.program f form x.ids) (ends_list form) rest) x.kinded.1;
     };
     leads = x.leads.1;
     agrees = x.agrees;
@@ -150,15 +150,15 @@ module _ (r : Setup) (kinded : IsKinded r.program) {f : Func} {place : ℕ} {for
   }
 
   abbrev pub rest_known : (frame' : Frame) (w' : World) →
-      Agrees r.program f x.site.context x.leads.0 (ids_behind r.program f form x.ids) [] frame' w'.objects →
+      Agrees r.program f x.site.context x.leads.0 (ids_following r.program f form x.ids) [] frame' w'.objects →
       AreKnown r.program f rest frame' w'
   rest_known frame' w' now = record {
     position = x.position;
     function = x.function;
     site = x.site;
-    ids = ids_behind r.program f form x.ids;
+    ids = ids_following r.program f form x.ids;
     map = x.leads.0;
-    behind = x.behind;
+    following = x.following;
     ended = ends_list form;
     here = record {
       entered = x.here.entered;
@@ -167,7 +167,7 @@ module _ (r : Setup) (kinded : IsKinded r.program) {f : Func} {place : ℕ} {for
     };
     kinded =
         none_right (form_rows r.program f x.site.around x.ids form)
-        (stmts_rows r.program f x.site.around (ids_behind r.program f form x.ids) (ends_list form) rest) x.kinded.1;
+        (stmts_rows r.program f x.site.around (ids_following r.program f form x.ids) (ends_list form) rest) x.kinded.1;
     leads = x.leads.2;
     agrees = now;
     head = x.head;
@@ -197,7 +197,7 @@ module _ (r : Setup) (kinded : IsKinded r.program)
       clash e = cc
   lists_more n all f (next place form rest) frame w x ts follows = (
     λ form' frame' w' e. told form' frame' w' (ap (form_in form) e.are) (ap (frame_in frame) e.step) (ap (world_in w) e.step),
-    forms n all f form frame w (first_known r kinded x) (list rest ∷ ts) (λ a safe. behind a safe (lists_now r n all)),
+    forms n all f form frame w (first_known r kinded x) (list rest ∷ ts) (λ a safe. following a safe (lists_now r n all)),
   )
     where
       told : (form' : Form) (frame' : Frame) (w' : World) → form ≡ form' → frame ≡ frame' → w ≡ w' → IsKnown r.program f form' frame' w'
@@ -205,14 +205,14 @@ module _ (r : Setup) (kinded : IsKinded r.program)
           subst (λ q. IsKnown r.program f q frame' w') one
           (subst (λ q. IsKnown r.program f form q w') two (subst (λ q. IsKnown r.program f form frame q) three (first_known r kinded x)))
 
-      behind : (a : Step) →
-          Safe (comes_to r.program f x.site x.leads.0 (ids_behind r.program f form x.ids)) a → GoodLists r n →
+      following : (a : Step) →
+          Safe (comes_to r.program f x.site x.leads.0 (ids_following r.program f form x.ids)) a → GoodLists r n →
           Good r n (at f (list rest ∷ ts) a)
-      behind (goes frame' w') safe again =
+      following (goes frame' w') safe again =
           again f rest frame' w' (rest_known r kinded x frame' w' safe) ts (λ b s. fewer r n _ (follows b s))
-      behind (jumps b frame' w') safe again = jumped r f rest ts n b frame' w' (fewer r n _ (follows (jumps b frame' w') safe))
-      behind (leaves a kept w') safe again = left r f rest ts n a kept w' (fewer r n _ (follows (leaves a kept w') safe))
-      behind (ends o w') safe again = ended r f rest ts n o w' (fewer r n _ (follows (ends o w') safe))
+      following (jumps b frame' w') safe again = jumped r f rest ts n b frame' w' (fewer r n _ (follows (jumps b frame' w') safe))
+      following (leaves a kept w') safe again = left r f rest ts n a kept w' (fewer r n _ (follows (leaves a kept w') safe))
+      following (ends o w') safe again = ended r f rest ts n o w' (fewer r n _ (follows (ends o w') safe))
 
   pub lists_all : (n : ℕ) → AllLists r n
   lists_all zero = λ f ss frame w x ts follows. tt

@@ -9,7 +9,7 @@ use Rattle.vlt_core.specs.KindedScopes.{Ids, Around, at_block_start, left_behind
 use Rattle.vlt_core.specs.KindedOperands.{misfit}
 use Rattle.vlt_core.specs.KindedStatements.{opened_broken, simple_broken}
 use Rattle.vlt_core.specs.KindedCalls.{is_fresh_call, keys_fit, result_broken_by, call_target_broken, target_alone_broken, call_broken}
-use Rattle.vlt_core.specs.KindedBodies.{in_loop, in_focus, with_focus, with_vars, ends, ids_behind, ids_behind_block, switch_broken, arm_vars_broken, arm_broken, focus_broken, list_broken, owning_toks, arms_broken, row_broken, form_rows, block_rows, stmts_rows, arms_rows}
+use Rattle.vlt_core.specs.KindedBodies.{in_loop, in_focus, with_focus, with_vars, ends, ids_following, ids_following_block, switch_broken, arm_vars_broken, arm_broken, focus_broken, list_broken, owning_toks, arms_broken, row_broken, form_rows, block_rows, stmts_rows, arms_rows}
 use Rattle.vlt_core.specs.declared.rules.TheConstants as rule
 use Rattle.vlt_core_laws.proofs.Unbroken.{EachEmpty, left_empty, right_empty, unless_holds, filled_not_empty, each_left, each_right}
 use Rattle.vlt_core_laws.proofs.Binding.{in_range}
@@ -109,7 +109,7 @@ module _ (p : Program) (f : Func) where
       own_form (core.simple s) around ids e rows = own_simple s ids e
       own_form (core.call g v keys args) around ids e rows = own_call g (slice_get p.fns g) refl (few g) v keys args ids e
       own_form (core.choose x a b) around ids e rows =
-          let ids2 = ids_behind_block p f a ids in (
+          let ids2 = ids_following_block p f a ids in (
             own_block a around ids (each_left (block_rows p f around ids a) (block_rows p f around ids2 b) rows),
             own_block b around ids2 (each_right (block_rows p f around ids a) (block_rows p f around ids2 b) rows),
           )
@@ -132,16 +132,16 @@ module _ (p : Program) (f : Func) where
       pub own_stmts : (ss : core.Stmts) (around : Around) (ids : Ids) (ended : Bool) → EachEmpty (stmts_rows p f around ids ended ss) → AreOwn p f ss
       own_stmts core.done around ids ended rows = tt
       own_stmts (core.next at s rest) around ids ended rows = (
-        own_form s around ids (right_empty (unless (not ended) rule.BEHIND_END) (row_broken p f around ids s) rows.0)
-            (each_left (form_rows p f around ids s) (stmts_rows p f around (ids_behind p f s ids) (ends s) rest) rows.1),
-        own_stmts rest around (ids_behind p f s ids) (ends s) (each_right (form_rows p f around ids s) (stmts_rows p f around (ids_behind p f s ids) (ends s) rest) rows.1),
+        own_form s around ids (right_empty (unless (not ended) rule.AFTER_END) (row_broken p f around ids s) rows.0)
+            (each_left (form_rows p f around ids s) (stmts_rows p f around (ids_following p f s ids) (ends s) rest) rows.1),
+        own_stmts rest around (ids_following p f s ids) (ends s) (each_right (form_rows p f around ids s) (stmts_rows p f around (ids_following p f s ids) (ends s) rest) rows.1),
       )
 
       own_arms : (arms : core.Arms) (around : Around) (v : ℕ) (ids : Ids) → arms_broken p f ids v arms ≡ [] → EachEmpty (arms_rows p f around ids arms) → AreOwnArms p f arms
       own_arms core.no_arms around v ids e rows = tt
       own_arms (core.arm c vs b rest) around v ids e rows =
           let ids2 = with_vars f vs ids in
-          let ids3 = left_behind ids (ids_behind_block p f b ids2) in
+          let ids3 = left_behind ids (ids_following_block p f b ids2) in
           let front = left_empty (arm_broken p f ids v c vs ++ list_broken p f (owning_toks f vs) ids2 b) (arms_broken p f ids3 v rest) e in
           let own = left_empty (arm_broken p f ids v c vs) (list_broken p f (owning_toks f vs) ids2 b) front in (
             arm_vars vs _ ids (right_empty _ (arm_vars_broken f ids _ vs) own),

@@ -94,7 +94,7 @@ module _ (r : Setup) (kinded : IsKinded r.program) (accepted : IsAccepted r.prog
         };
         ids = first_ids r.program f;
         map = start_map r.program f;
-        behind = body.2.1.0;
+        following = body.2.1.0;
         ended = false;
         here = record { entered = main_entered r.program f m; scoped = main_scoped r.program f m; outer = λ v e. e };
         kinded = subst (λ b. BreakNone (if b then [] else stmts_rows r.program f (record { jumps = false; returns = true }) (first_ids r.program f) false f.body)) internal (body_kinded r.program r.program.main f kinded known);

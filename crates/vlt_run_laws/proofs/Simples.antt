@@ -21,17 +21,17 @@ use Rattle.vlt_run_laws.proofs.Moves.{GoodForm}
 module _ (r : Setup) (n : ℕ) (f : Func) (typed : IsTyped r.program f) (keyed : HasKeys f) where
   pub simple_good : HasCases r.program f → (s : Simple) → GoodForm r n f (simple s)
   simple_good cased s frame w x ts follows =
-      follows _ (form_safe r f typed keyed cased out_of_fuel s x.site x.map x.behind x.ids frame w x.here x.kinded x.leads x.agrees)
+      follows _ (form_safe r f typed keyed cased out_of_fuel s x.site x.map x.following x.ids frame w x.here x.kinded x.leads x.agrees)
 
   pub jump_good : (continues : Bool) → GoodForm r n f (jump continues)
   jump_good continues frame w x ts follows =
-      follows _ (jump_is_safe r out_of_fuel f typed keyed continues x.site x.map x.behind x.ids frame w x.here x.kinded x.leads x.agrees)
+      follows _ (jump_is_safe r out_of_fuel f typed keyed continues x.site x.map x.following x.ids frame w x.here x.kinded x.leads x.agrees)
 
   pub return_good : HasHead r.program f → (value : Option Operand) → GoodForm r n f (return value)
   return_good head value frame w x ts follows =
       let both = both_empty (unless x.site.around.returns rule.WRONG_JUMP) (return_broken r.program f x.ids f.result value) x.kinded.row in
       follows _
-      (weaker (returns_to r.program f x.site.context) (comes_to r.program f x.site x.behind x.ids)
+      (weaker (returns_to r.program f x.site.context) (comes_to r.program f x.site x.following x.ids)
       (does_form r out_of_fuel f (return value) frame w)
       (λ frame w never. absurd never) (λ c frame w never. absurd never)
       (λ v kept w left. record { allowed = unless_so x.site.around.returns rule.WRONG_JUMP both.0; returned = left })

@@ -5,7 +5,7 @@ use Rattle.vlt_core.specs.Core.{switch, Arms, no_arms, arm, Func}
 use Rattle.vlt_core.specs.Lookups.{variant_of}
 use Rattle.vlt_core.specs.Maps.{map_after}
 use Rattle.vlt_core.specs.Rows.{arm_rows}
-use Rattle.vlt_core.specs.KindedBodies.{switch_broken, arms_broken, owning_toks, with_vars, ids_behind_arms}
+use Rattle.vlt_core.specs.KindedBodies.{switch_broken, arms_broken, owning_toks, with_vars, ids_following_arms}
 use Rattle.vlt_meaning.specs.World.{World, Frame, one, missing}
 use Rattle.vlt_meaning.specs.Found.{or_fault}
 use Rattle.vlt_meaning.specs.Step.{goes}
@@ -63,7 +63,7 @@ module _ (r : Setup) (n : ℕ) (all : AllLists r n) (f : Func) (typed : IsTyped 
         site = x.site;
         ids = x.ids;
         before = x.map;
-        behind = x.behind;
+        following = x.following;
         here = x.here;
         agrees = x.agrees;
         broken = both.0;
@@ -79,7 +79,7 @@ module _ (r : Setup) (n : ℕ) (all : AllLists r n) (f : Func) (typed : IsTyped 
       let opens = in_world (IsOpen p f typed keyed cased q) in
       let inner = with_vars f a.vs a.scope in
       let inside = map_after (arm_rows p f v c.number a.vs) (map_after (emptying f v) x.map) in
-      let G = comes_to p f x.site x.behind (ids_behind_arms p f arms x.ids) in
+      let G = comes_to p f x.site x.following (ids_following_arms p f arms x.ids) in
       known_found r n (or_fault missing (variant_of f v)) (switched_type p f typed keyed cased q) (ap (or_fault missing) (type_is p f typed keyed cased q)) f ts w _
       (known_found r n (case_in (frame.vars v)) c (case_is p f typed keyed cased q) f ts w _
       (given_good r n opens (opened_got ks c.keys frame w) (λ u fr w'. goes frame w')
@@ -99,7 +99,7 @@ module _ (r : Setup) (n : ℕ) (all : AllLists r n) (f : Func) (typed : IsTyped 
         site = x.site;
         ids = inner;
         map = inside;
-        behind = x.behind;
+        following = x.following;
         extra = owning_toks f a.vs;
         here = arm_here p f typed keyed cased q;
         kinded = a.kinded;
@@ -108,5 +108,5 @@ module _ (r : Setup) (n : ℕ) (all : AllLists r n) (f : Func) (typed : IsTyped 
         head = x.head;
       }) ts
       (λ s safe. follows s (weaker _ G s
-      (λ fr v now. agrees_in (ids_behind_arms p f arms x.ids) (arms_scope p f typed keyed cased q) now)
+      (λ fr v now. agrees_in (ids_following_arms p f arms x.ids) (arms_scope p f typed keyed cased q) now)
       (λ c fr v jumped. jumped) (λ b kept v left. left) safe)))))))

@@ -22,10 +22,10 @@ pub record IsKnown (p : Program) (f : Func) (form : Form) (frame : Frame) (w : W
   pub site : Site
   pub ids : Ids
   pub map : HeldMap
-  pub behind : HeldMap
+  pub following : HeldMap
   pub here : IsAt p f site ids
   pub kinded : IsKindedForm p f site.around ids form
-  pub leads : Derives site.breaks site.turns map (flow_of p f site.left form) behind
+  pub leads : Derives site.breaks site.turns map (flow_of p f site.left form) following
   pub agrees : Agrees p f site.context map ids [] frame w.objects
   pub head : HasNamedHead f site.context
 

@@ -1,6 +1,6 @@
 //! Laws on programs that break no rule on names and types.
 
-ghost use Rattle.std.specs.Prelude.{◌≡◌, ℕ, false, [], Some, slice_get};
+ghost use Rattle.std.specs.Prelude.{◌≡◌, ℕ, [], Some, slice_get};
 ghost use Rattle.vlt_core.specs.Core.{Func, Program};
 ghost use Rattle.vlt_core.specs.Kinded.{IsKinded};
 ghost use Rattle.vlt_core.specs.KindedBodies.{body_rows, end_broken};

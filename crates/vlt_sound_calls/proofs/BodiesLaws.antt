@@ -73,16 +73,16 @@ module _ (r : Setup) (rest_of : Meaning) {f : Func} {c : Context} {h : HeldMap} 
     (typed : IsTyped r.program f) (typed_callee : IsTyped r.program g) (head : HasHead r.program g)
     (entered : IsEntered r.program f c) (scoped : IsScoped f c ids)
     (pass : CanPass (clause_rows r.program f keys g.clause) h) where
-  abbrev behind : HeldMap
-  behind = map_after (clause_rows r.program f keys g.clause) h
+  abbrev following : HeldMap
+  following = map_after (clause_rows r.program f keys g.clause) h
 
-  pub body_safe : (target : Option ℕ) → call_target_broken f ids g keys target ≡ [] → CanPass (target_rows f target) behind →
-      Safe (goes_to r.program f c (map_after (target_rows f target) behind) (with_call_target f (Some g) target ids) [])
+  pub body_safe : (target : Option ℕ) → call_target_broken f ids g keys target ≡ [] → CanPass (target_rows f target) following →
+      Safe (goes_to r.program f c (map_after (target_rows f target) following) (with_call_target f (Some g) target ids) [])
       (call_body r rest_of f target keys g values frame w)
   unfolding call_body
   body_safe target broken rows = by (nat_lt frame.depth r.depth)
     where
-      run : Safe (goes_to r.program f c (map_after (target_rows f target) behind) (with_call_target f (Some g) target ids) [])
+      run : Safe (goes_to r.program f c (map_after (target_rows f target) following) (with_call_target f (Some g) target ids) [])
           (with_found (passed_objects r.program g keys frame w.objects g.clause) w (λ ns.
           back_in f target keys g frame
           (rest_of g g.body (callee_frame g keys values frame) (with_objects w (handed_over keys frame g.clause w.objects)))))
@@ -90,9 +90,9 @@ module _ (r : Setup) (rest_of : Meaning) {f : Func} {c : Context} {h : HeldMap} 
           let ok =
           all_passed keys frame w.objects r.program g g.clause (holds agrees g keys fits typed.limited entered.flat pass)
           (λ e j b x. (passes_states agrees g keys fits typed.limited entered.flat pass e j b x).0) in
-          found_safe (goes_to r.program f c (map_after (target_rows f target) behind) (with_call_target f (Some g) target ids) [])
+          found_safe (goes_to r.program f c (map_after (target_rows f target) following) (with_call_target f (Some g) target ids) [])
           (passed_objects r.program g keys frame w.objects g.clause) ok.0 w _ ok.1
-          (back_safe (goes_to r.program f c (map_after (target_rows f target) behind) (with_call_target f (Some g) target ids) [])
+          (back_safe (goes_to r.program f c (map_after (target_rows f target) following) (with_call_target f (Some g) target ids) [])
           r.program f target keys g (callee_context f h ids frame c g keys) frame _
           (safe (callee_context f h ids frame c g keys) (callee_frame g keys values frame)
           (with_objects w (handed_over keys frame g.clause w.objects))
@@ -102,7 +102,7 @@ module _ (r : Setup) (rest_of : Meaning) {f : Func} {c : Context} {h : HeldMap} 
           (λ a ns w2 left.
           deliver_safe w agrees g keys fits new head typed entered scoped pass w2 left target broken rows))
 
-      by : (b : Bool) → Safe (goes_to r.program f c (map_after (target_rows f target) behind) (with_call_target f (Some g) target ids) [])
+      by : (b : Bool) → Safe (goes_to r.program f c (map_after (target_rows f target) following) (with_call_target f (Some g) target ids) [])
           (if b then with_found (passed_objects r.program g keys frame w.objects g.clause) w (λ ns.
           back_in f target keys g frame
           (rest_of g g.body (callee_frame g keys values frame) (with_objects w (handed_over keys frame g.clause w.objects))))
@@ -112,7 +112,7 @@ module _ (r : Setup) (rest_of : Meaning) {f : Func} {c : Context} {h : HeldMap} 
 
 -- ---- calls
 
--- a step that is safe is so where the map behind it allows more
+-- a step that is safe is so where the map after it allows more
 widened : (p : Program) (f : Func) (c : Context) (k m : HeldMap) (ids : Ids) → IsBelow k m → (step : Step) →
     Safe (goes_to p f c k ids []) step → Safe (goes_to p f c m ids []) step
 widened p f c k m ids below (goes frame w) safe = agrees_below below safe

@@ -29,7 +29,7 @@ use Rattle.vlt_sound_calls.specs.TakenOver.{AreTakenOver, IsForKey, NamesObject,
 use Rattle.vlt_sound_calls.proofs.Boxing.{agrees_boxed}
 use Rattle.vlt_sound_calls.proofs.TakenOver.{over_all, over_within}
 use Rattle.vlt_sound_calls.proofs.ReturnTelling.{Told, all_told}
-use Rattle.vlt_sound_calls.proofs.ResultsPieces.{AreHostPayloads, Behind, parts_objects, parts_fit, pieces_safe}
+use Rattle.vlt_sound_calls.proofs.ResultsPieces.{AreHostPayloads, Following, parts_objects, parts_fit, pieces_safe}
 
 -- ---- the objects of a case's keys
 
@@ -163,7 +163,7 @@ module _ {p : Program} {f : Func} {c : Context} {h : HeldMap} {ids : Ids} {frame
           let q = host.payload i ty at in
           (q.0, λ k j. subst (λ l. k < l) (sym (length-map args (stands_for keys))) (q.1 k j))
 
-      boxed : (parts : List Part) (w2 : World) → Behind p f c h ids frame ns inner heap goal [] d.payload now parts w2 →
+      boxed : (parts : List Part) (w2 : World) → Following p f c h ids frame ns inner heap goal [] d.payload now parts w2 →
           Agrees p f c h ids (record { value = of_case case parts ns; type = with_keys keys ty } ∷ []) frame w2.objects
       boxed parts w2 b =
           agrees_boxed b.agrees ns w2.objects b.over (record { value = of_case case parts ns; type = with_keys keys ty })

@@ -20,7 +20,7 @@ use Rattle.vlt_sound_worlds.specs.Placed.{IsPlaced}
 use Rattle.vlt_sound_worlds.specs.Roots.{owned_by, content, home, owner_of}
 use Rattle.vlt_sound_worlds.specs.Scene.{Scene}
 use Rattle.vlt_sound_worlds.specs.Fits.{Fits}
-use Rattle.vlt_sound_worlds.proofs.Fits.{fits_named, fits_behind}
+use Rattle.vlt_sound_worlds.proofs.Fits.{fits_named, fits_after}
 use Rattle.vlt_sound_worlds.specs.Agrees.{HasVar, InScope, VarsFit, VarsAgree, values_of, Waiting, Context, WaitsWell, scene, stock, Agrees}
 use Rattle.vlt_sound_worlds.specs.Typed.{IsTyped}
 use Rattle.vlt_sound_worlds.proofs.Plain.{plain_value}
@@ -118,7 +118,7 @@ module _ {p : Program} {f : Func} {c : Context} {h : HeldMap} {ids : Ids} {frame
       let fit = param_fits p (scene c os agrees.heads) frame.keys keys g.params g.vars values long agrees.handed v ty a is at in
       fits_named p (scene c os agrees.heads) (λ k. frame.keys (stands_for keys k)) (callee_key g keys frame) ty a
       (λ k j. callee_names agrees g keys call typed.limited entered.flat pass k (callee_scoped.vars v k ty i is j))
-      (fits_behind p (scene c os agrees.heads) frame.keys keys ty a fit)
+      (fits_after p (scene c os agrees.heads) frame.keys keys ty a fit)
 
   callee_fits : VarsFit p g (first_ids p g) (scene c over agrees.heads) (callee_key g keys frame) (slice_get values)
   callee_fits =

@@ -45,7 +45,7 @@ one_back q n os back e =
       is = sym (same_ok (with_changed_object n (with_owner q) os) back own.rest);
     }
 
--- what an entry that is given does, where this key stands for its own, and those behind it
+-- what an entry that is given does, where this key stands for its own, and those after it
 abbrev turn : (keys : List ℕ) → Frame → List Entry → List Object → (k : ℕ) → Found (List Object)
 turn keys frame es os k = or_fault missing (frame.keys k) >>= λ n. objects_after_move is_out (world.held frame.depth k) (n ∷ []) os >>=
     λ now. come_back keys frame es now

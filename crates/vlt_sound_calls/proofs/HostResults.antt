@@ -156,8 +156,8 @@ module _ (p : Program) (heap : ℕ) (f : Func) (c : Context) (h : HeldMap) (ids 
         (agrees_came p f typed entered scoped keys g.clause (map_after_sending g keys h) w.objects fit.back agrees givable fit.came)
 
     -- where no new key is
-    agrees_behind : ((e : Entry) → Among e g.clause → is_new e ≡ true → ⊥) → Agrees p f c after_call ids [] frame os1
-    agrees_behind none = agrees_map (same_map p f g keys call.entries call.callers h pass none) agrees_now
+    agrees_after : ((e : Entry) → Among e g.clause → is_new e ≡ true → ⊥) → Agrees p f c after_call ids [] frame os1
+    agrees_after none = agrees_map (same_map p f g keys call.entries call.callers h pass none) agrees_now
 
     no_new : (o : Option Ty) → g.result ≡ o → ((k t : ℕ) (args : List ℕ) → o ≡ Some (tracked k t args) → ⊥) → (e : Entry) →
         Among e g.clause → is_new e ≡ true → ⊥
@@ -175,7 +175,7 @@ module _ (p : Program) (heap : ℕ) (f : Func) (c : Context) (h : HeldMap) (ids 
 
     agrees_same : ((e : Entry) → Among e g.clause → is_new e ≡ true → ⊥) → (r : Result) → q.answer.result ≡ r →
         keys_of_case p (variant_in g.result) r ≡ [] → Agrees p f c after_call ids [] frame w2.objects
-    agrees_same none r is empty = subst (Agrees p f c after_call ids [] frame) (sym (objects_same r is empty)) (agrees_behind none)
+    agrees_same none r is empty = subst (Agrees p f c after_call ids [] frame) (sym (objects_same r is empty)) (agrees_after none)
 
     -- the keys of references name objects of their types
     objects_named : over.AreNamed g keys frame os1
@@ -308,7 +308,7 @@ module _ (p : Program) (heap : ℕ) (f : Func) (c : Context) (h : HeldMap) (ids 
         variant_in (Some ty) ≡ Some (record { type = t; args = args }) → IsCaseOf p t case ss ps →
         q.answer.result ≡ case_with case ss ps → IsSafe (case_with case ss ps)
     case_given ty t args case ss ps is of is_case r =
-        case_safe w2 (agrees_behind (no_new (Some ty) is (λ k u others e. not_variant k u others (sym of ∙ ap variant_in e)))) g keys
+        case_safe w2 (agrees_after (no_new (Some ty) is (λ k u others e. not_variant k u others (sym of ∙ ap variant_in e)))) g keys
         q.answer.states heap goal (deliver f target) ty t case args is_case.decl ss ps is of is_case.declared
         (host.cases t case args is_case.decl (ap variant_in is ∙ of) is_case.declared) objects_named is_case.key_states is_case.payload
         (with_states es_states q.objects)

@@ -190,10 +190,10 @@ module _ (r : Setup) (answers : AnswersAreSafe r) (f : Func) (c : Context) (h : 
       (in_has k (tracked_keys g) is)
 
   -- what the host takes goes out
-  behind : (numbers : List ℤ) (w2 : World) → w2.objects ≡ w.objects →
+  following : (numbers : List ℤ) (w2 : World) → w2.objects ≡ w.objects →
       Safe goal (with_moved (is_at frame.depth) out (taken_objects keys frame g.clause) w2 (λ w.
       with_moved is_loose out (flat_map objects_in values) w (λ w. answer_step r.heap r.program f target keys g numbers frame w)))
-  behind numbers w2 same =
+  following numbers w2 same =
       let all : HoldsAll keys frame w2.objects g.clause = subst (λ os. HoldsAll keys frame os g.clause) (sym same) mine in
       let now : Agrees r.program f c h ids (handed_values types values) frame w2.objects =
       subst (Agrees r.program f c h ids (handed_values types values) frame) (sym same) agrees in
@@ -221,7 +221,7 @@ module _ (r : Setup) (answers : AnswersAreSafe r) (f : Func) (c : Context) (h : 
       let ok = all_passed keys frame w.objects r.program g g.clause mine (λ e j b x. (passes_states agrees g keys fits typed.limited entered.flat pass e j b x).0) in
       found_safe goal (passed_objects r.program g keys frame w.objects g.clause) ok.0 w _ ok.1
       (found_safe goal (named_objects keys frame (awaited_keys r.program g)) awaited.0 w _ awaited.1
-      (answer_safe goal (with_event w (called g.name values)) _ behind))
+      (answer_safe goal (with_event w (called g.name values)) _ following))
 
 pub externals_are_safe : (r : Setup) → AnswersAreSafe r → ExternalsAreSafe r
 externals_are_safe r answers = record {

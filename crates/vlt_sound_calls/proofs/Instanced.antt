@@ -158,7 +158,7 @@ module _ (p : Program) (f : Func) where
   of_new None d e same = ap is_new same
   of_new (Some o) d e same = ap is_new same ∙ is_new_of p f o d
 
-  -- the states behind a call are those of the function's entry, or one of the key's type
+  -- the states after a call are those of the function's entry, or one of the key's type
   after_of : (o : Option ℕ) (d e : Entry) (t s : ℕ) → OfInstance p f o d e → key_type f d.key ≡ Some t →
       (IsTrue (after_set p f d s) → IsTrue (all_states p t s)) → IsTrue (after_set p (instance p f o) e s) → IsTrue (all_states p t s)
   after_of None d e t s same typed was is = was (subst (λ e. IsTrue (after_set p f e s)) same is)

@@ -212,7 +212,7 @@ module _ (r : Setup) {f : Func} {c : Context} {h : HeldMap} {ids : Ids} {hand : 
       (filtered_among is_given_back f.clause e q.0 (is_given q.1 n)))
       (cases_Bool (is_new e))
 
-  -- ---- names behind the return
+  -- ---- names after the return
 
   pub names : Names
   names k = if is_new_key f k then frame.keys new else frame.keys k
@@ -265,8 +265,8 @@ module _ (r : Setup) {f : Func} {c : Context} {h : HeldMap} {ids : Ids} {hand : 
       (look w.objects n).owner ≡ world.held frame.depth new → kind_of (h (a_key new)) ≡ is_held →
       IsTrue (after_set r.program f e (look w.objects n).state) →
       returned_object r.program f value e frame w.objects ≡ Ok (named n (look w.objects n))) where
-    behind : HeldMap
-    behind = map_after (take_rows key_of wants (kept_entries f)) h
+    following : HeldMap
+    following = map_after (take_rows key_of wants (kept_entries f)) h
 
     both : CanPass (take_rows key_of wants (kept_entries f)) h × CanPass (map maps.away_row (tokens_of f)) (map_after (take_rows key_of wants (kept_entries f)) h)
     both = pass_split (take_rows key_of wants (kept_entries f)) (map maps.away_row (tokens_of f)) h rows

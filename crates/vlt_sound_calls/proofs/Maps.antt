@@ -98,8 +98,8 @@ module _ (keys : List ℕ) where
 
 module _ (p : Program) (f g : Func) (keys : List ℕ) (there : AreThere keys g.clause)
     (apart : AreApartBy (caller_key keys) g.clause) (h : HeldMap) (pass : CanPass (clause_rows p f keys g.clause) h) where
-  abbrev pub behind : HeldMap
-  behind = map_after (clause_rows p f keys g.clause) h
+  abbrev pub following : HeldMap
+  following = map_after (clause_rows p f keys g.clause) h
 
   abbrev pub back : HeldMap
   back = came keys g.clause (map_after_sending g keys h)
@@ -201,35 +201,35 @@ module _ (p : Program) (f g : Func) (keys : List ℕ) (there : AreThere keys g.c
       told_here keys p f (entries_after g) (filtered_apart (caller_key keys) is_held_after g.clause apart) back e
       (filtered_among is_held_after g.clause e i after) old
 
-  -- ---- behind the call
+  -- ---- after the call
 
-  behind_here : (e : Entry) → Among e g.clause → behind (at keys e) ≡ status_after (entry_after p f (caller_key keys e) e) (h (at keys e))
-  behind_here e i = clause_here p f keys g.clause there apart h e i
+  after_here : (e : Entry) → Among e g.clause → following (at keys e) ≡ status_after (entry_after p f (caller_key keys e) e) (h (at keys e))
+  after_here e i = clause_here p f keys g.clause there apart h e i
 
-  behind_after : (e : Entry) → Among e g.clause → is_held_after e ≡ true →
-      behind (at keys e) ≡ held (states_or_all p f (caller_key keys e) e.after)
-  behind_after e i after =
-      behind_here e i ∙
+  after_after : (e : Entry) → Among e g.clause → is_held_after e ≡ true →
+      following (at keys e) ≡ held (states_or_all p f (caller_key keys e) e.after)
+  after_after e i after =
+      after_here e i ∙
       ap (λ b. status_after (if b then becomes_held (states_or_all p f (caller_key keys e) e.after) else becomes_absent) (h (at keys e))) after
 
-  entry_same : (e : Entry) → Among e g.clause → (is_new e ≡ true → ⊥) → now (at keys e) ≡ behind (at keys e)
+  entry_same : (e : Entry) → Among e g.clause → (is_new e ≡ true → ⊥) → now (at keys e) ≡ following (at keys e)
   entry_same e i old = by e.mode refl
     where
-      by : (m : Mode) → e.mode ≡ m → now (at keys e) ≡ behind (at keys e)
-      by kept q = told_now e i (ap is_after q) (ap is_fresh q) ∙ sym (behind_after e i (ap is_after q))
-      by (up_to u) q = told_now e i (ap is_after q) (ap is_fresh q) ∙ sym (behind_after e i (ap is_after q))
-      by given q = told_now e i (ap is_after q) (ap is_fresh q) ∙ sym (behind_after e i (ap is_after q))
+      by : (m : Mode) → e.mode ≡ m → now (at keys e) ≡ following (at keys e)
+      by kept q = told_now e i (ap is_after q) (ap is_fresh q) ∙ sym (after_after e i (ap is_after q))
+      by (up_to u) q = told_now e i (ap is_after q) (ap is_fresh q) ∙ sym (after_after e i (ap is_after q))
+      by given q = told_now e i (ap is_after q) (ap is_fresh q) ∙ sym (after_after e i (ap is_after q))
       by taken q =
           told_own e i (λ d same after none. false_true (sym (ap is_after q) ∙ (ap is_held_after (sym same) ∙ after))) ∙
           (came_own e i (ap (λ m. not (is_before m) && not (is_fresh m)) q) ∙
           (sent_here e i (ap (λ m. is_before m && not (is_after m)) q) ∙
-          sym (behind_here e i ∙
+          sym (after_here e i ∙
           ap (λ b. status_after (if b then becomes_held (states_or_all p f (caller_key keys e) e.after) else becomes_absent) (h (at keys e)))
           (ap is_after q))))
       by fresh q = absurd (old (ap is_fresh q))
 
   -- where no new key is, nothing else changes
-  elsewhere : (t : Tok) → ((e : Entry) → Among e g.clause → is_new e ≡ true → t ≡ at keys e → ⊥) → now t ≡ behind t
+  elsewhere : (t : Tok) → ((e : Entry) → Among e g.clause → is_new e ≡ true → t ≡ at keys e → ⊥) → now t ≡ following t
   elsewhere (a_var v) off =
       told_other keys p f (entries_after g) back (a_var v) (λ d j old q. var_is_no_key q) ∙
       (came_other keys g.clause (map_after_sending g keys h) (a_var v) (λ d j t q. var_is_no_key q) ∙
@@ -237,7 +237,7 @@ module _ (p : Program) (f g : Func) (keys : List ℕ) (there : AreThere keys g.c
       sym (clause_other p f keys g.clause there h (a_var v) (λ d j q. var_is_no_key q))))
   elsewhere (a_key k) off = ⊎_elim
       (λ s.
-      subst (λ k. now (a_key k) ≡ behind (a_key k)) s.is
+      subst (λ k. now (a_key k) ≡ following (a_key k)) s.is
       (entry_same s.entry s.among (λ new. off s.entry s.among new (ap a_key (sym s.is)))))
       (λ none.
       let away : (e : Entry) → Among e g.clause → a_key k ≡ at keys e → ⊥ = λ e j q. none e j refl (sym (key_same q)) in
@@ -247,7 +247,7 @@ module _ (p : Program) (f g : Func) (keys : List ℕ) (there : AreThere keys g.c
       (sought (λ e. true) (caller_key keys) g.clause k)
 
   -- with no new key the two are the same
-  pub same_map : ((e : Entry) → Among e g.clause → is_new e ≡ true → ⊥) → now ≡ behind
+  pub same_map : ((e : Entry) → Among e g.clause → is_new e ≡ true → ⊥) → now ≡ following
   same_map none = λ i t. (elsewhere t (λ e j new q. none e j new)) i
 
   -- a new key is absent, and then held
@@ -266,9 +266,9 @@ module _ (p : Program) (f g : Func) (keys : List ℕ) (there : AreThere keys g.c
 
   pub new_held : (e : Entry) → Among e g.clause → is_new e ≡ true →
       ((d : Entry) → Among d g.clause → is_new d ≡ true → d ≡ e) →
-      ChangesTok (at keys e) (held (states_or_all p f (caller_key keys e) e.after)) now behind
+      ChangesTok (at keys e) (held (states_or_all p f (caller_key keys e) e.after)) now following
   new_held e i new only = record {
-    here = behind_after e i (after_fresh e.mode new);
+    here = after_after e i (after_fresh e.mode new);
     others = λ t other. sym (elsewhere t (λ d j is q. other (q ∙ ap (at keys) (only d j is))));
   }
     where

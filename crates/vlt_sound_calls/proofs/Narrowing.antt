@@ -168,7 +168,7 @@ module _ (p : Program) (f g : Func) (keys : List ℕ) (o : ℕ) where
 -- ---- the instance of a call
 
 -- the caller, where it knows the state of a bound entry's object: what the instance's clause wants is so, and what the caller
--- knows behind it is true
+-- knows after it is true
 pub record Narrowed (p : Program) (f : Func) (c : Context) (h : HeldMap) (ids : Ids) (hand : List Handed) (frame : Frame)
     (os : List Object) (g : Func) (keys : List ℕ) : Type 0 where
   pub origin : Option ℕ

@@ -37,8 +37,8 @@ module _ (vars : ℕ → Option Value) (hand : List ℕ) (d : ℕ) (a : Waiting)
   abbrev before : Root → List ℕ
   before = content (record { vars = vars; hand = hand; waits = λ e. (old e).frame.vars; objects = os })
 
-  abbrev behind : Root → List ℕ
-  behind =
+  abbrev following : Root → List ℕ
+  following =
       content (record { vars = λ v. None; hand = hand; waits = λ e. (with_waiting d a old e).frame.vars; objects = os })
 
   to_wait : Root → Root
@@ -54,11 +54,11 @@ module _ (vars : ℕ → Option Value) (hand : List ℕ) (d : ℕ) (a : Waiting)
   there : (v e : ℕ) → (e ≡ d → ⊥) → owned_by ((with_waiting d a old e).frame.vars v) ≡ owned_by ((old e).frame.vars v)
   there v e other = ap (λ b. owned_by (b.frame.vars v)) (waiting_other d a old e other)
 
-  pub vars_wait : IsPlaced before home owner → IsPlaced behind home owner
+  pub vars_wait : IsPlaced before home owner → IsPlaced following home owner
   unfolding to_wait
   vars_wait was = placed.renamed home same_root was to_wait to back once (λ n. refl)
     where
-      to : (P : Root) (n : ℕ) → In n (before P) → In n (behind (to_wait P)) × (home (to_wait P) ≡ home P)
+      to : (P : Root) (n : ℕ) → In n (before P) → In n (following (to_wait P)) × (home (to_wait P) ≡ home P)
       to (in_var v) n i = (subst (In n) (sym (here v d refl)) i, refl)
       to in_hand n i = (i, refl)
       to (in_wait e v) n i = (
@@ -70,7 +70,7 @@ module _ (vars : ℕ → Option Value) (hand : List ℕ) (d : ℕ) (a : Waiting)
       )
       to (in_cell m j) n i = (i, refl)
 
-      back : (P : Root) (n : ℕ) → In n (behind P) → (Q : Root) × (to_wait Q ≡ P) × In n (before Q)
+      back : (P : Root) (n : ℕ) → In n (following P) → (Q : Root) × (to_wait Q ≡ P) × In n (before Q)
       back (in_var v) n i = absurd i
       back in_hand n i = (in_hand, refl, i)
       back (in_wait e v) n i = ⊎_elim
@@ -79,7 +79,7 @@ module _ (vars : ℕ → Option Value) (hand : List ℕ) (d : ℕ) (a : Waiting)
           (cases_eq e d)
       back (in_cell m j) n i = (in_cell m j, refl, i)
 
-      once : (P : Root) → IsOnce (behind P)
+      once : (P : Root) → IsOnce (following P)
       once (in_var v) = tt
       once in_hand = was.once in_hand
       once (in_wait e v) = ⊎_elim

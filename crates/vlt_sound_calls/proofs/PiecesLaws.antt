@@ -26,17 +26,17 @@ use Rattle.vlt_sound_calls.specs.ReturnGiven.{IsGiven}
 changed_last : (os : List Object) (o : Object) (q : Object → Object) → with_changed_object (length os) q (os ++ o ∷ []) ≡ os ++ q o ∷ []
 changed_last [] o q = refl
 changed_last (x ∷ os) o q =
-    behind (slice_get (os ++ o ∷ []) (length os)) ∙ ap (λ rest. x ∷ rest) (changed_last os o q)
+    following (slice_get (os ++ o ∷ []) (length os)) ∙ ap (λ rest. x ∷ rest) (changed_last os o q)
   where
-    behind : (a : Option Object) →
+    following : (a : Option Object) →
         changed_in (suc (length os)) q (x ∷ os ++ o ∷ []) a ≡ x ∷ changed_in (length os) q (os ++ o ∷ []) a
-    behind None = refl
-    behind (Some a) = refl
+    following None = refl
+    following (Some a) = refl
 
 module _ {p : Program} {f : Func} {c : Context} {h : HeldMap} {ids : Ids} {frame : Frame} (w : World)
     (agrees : Agrees p f c h ids [] frame w.objects) (g : Func) (keys states : List ℕ) (heap : ℕ) (goal : Goal)
     (go : Option Value → Frame → World → Step) where
-  -- what comes behind a result is safe
+  -- what comes after a result is safe
   abbrev pub GoesOn : Ty → Type 0
   GoesOn ty = (v : Value) (w2 : World) → IsGiven p f c h ids frame w2.objects keys (Some ty) (Some v) →
       Safe goal (go (Some v) frame w2)

@@ -18,8 +18,8 @@ module _ (vars callee : ℕ → Option Value) (hand : List ℕ) (d : ℕ) (a : W
   before =
       content (record { vars = callee; hand = hand; waits = λ e. (with_waiting d a old e).frame.vars; objects = os })
 
-  abbrev behind : Root → List ℕ
-  behind = content (record { vars = vars; hand = hand; waits = λ e. (old e).frame.vars; objects = os })
+  abbrev following : Root → List ℕ
+  following = content (record { vars = vars; hand = hand; waits = λ e. (old e).frame.vars; objects = os })
 
   out : Root → Root
   out (in_wait e v) = if e == d then in_var v else in_wait e v
@@ -42,20 +42,20 @@ module _ (vars callee : ℕ → Option Value) (hand : List ℕ) (d : ℕ) (a : W
   unfolding out
   out_there e v other = ap (λ b. if b then in_var v else in_wait e v) (ne_eqb e d other)
 
-  pub vars_go_on : IsPlaced before home owner → IsPlaced behind home owner
+  pub vars_go_on : IsPlaced before home owner → IsPlaced following home owner
   unfolding out
   vars_go_on was = placed.renamed home same_root was out to back once (λ n. refl)
     where
-      to : (P : Root) (n : ℕ) → In n (before P) → In n (behind (out P)) × (home (out P) ≡ home P)
+      to : (P : Root) (n : ℕ) → In n (before P) → In n (following (out P)) × (home (out P) ≡ home P)
       to (in_var v) n i = absurd (subst (In n) (empty v) i)
       to in_hand n i = (i, refl)
       to (in_wait e v) n i = ⊎_elim
-          (λ same. (subst (λ P. In n (behind P)) (sym (out_here e v same)) (subst (In n) (here v e same) i), ap home (out_here e v same)))
-          (λ other. (subst (λ P. In n (behind P)) (sym (out_there e v other)) (subst (In n) (there v e other) i), ap home (out_there e v other)))
+          (λ same. (subst (λ P. In n (following P)) (sym (out_here e v same)) (subst (In n) (here v e same) i), ap home (out_here e v same)))
+          (λ other. (subst (λ P. In n (following P)) (sym (out_there e v other)) (subst (In n) (there v e other) i), ap home (out_there e v other)))
           (cases_eq e d)
       to (in_cell m j) n i = (i, refl)
 
-      back : (P : Root) (n : ℕ) → In n (behind P) → (Q : Root) × (out Q ≡ P) × In n (before Q)
+      back : (P : Root) (n : ℕ) → In n (following P) → (Q : Root) × (out Q ≡ P) × In n (before Q)
       back (in_var v) n i = (in_wait d v, out_here d v refl, subst (In n) (sym (here v d refl)) i)
       back in_hand n i = (in_hand, refl, i)
       back (in_wait e v) n i = ⊎_elim
@@ -64,7 +64,7 @@ module _ (vars callee : ℕ → Option Value) (hand : List ℕ) (d : ℕ) (a : W
           (cases_eq e d)
       back (in_cell m j) n i = (in_cell m j, refl, i)
 
-      once : (P : Root) → IsOnce (behind P)
+      once : (P : Root) → IsOnce (following P)
       once (in_var v) = subst IsOnce (here v d refl) (was.once (in_wait d v))
       once in_hand = was.once in_hand
       once (in_wait e v) = ⊎_elim

@@ -17,7 +17,7 @@ use Rattle.vlt_sound_worlds.proofs.Look.{makes_one}
 use Rattle.vlt_sound_worlds.specs.Members.{In}
 use Rattle.vlt_sound_worlds.specs.Scene.{Scene}
 use Rattle.vlt_sound_worlds.specs.Fits.{Names, names_of, FitsPart, FitParts, Fits}
-use Rattle.vlt_sound_worlds.proofs.Fits.{fits_named, fits_behind}
+use Rattle.vlt_sound_worlds.proofs.Fits.{fits_named, fits_after}
 use Rattle.vlt_sound_worlds.specs.Agrees.{Handed, FitHanded, Context, scene, Agrees}
 use Rattle.vlt_sound_worlds.specs.Safe.{Goal, Safe}
 use Rattle.vlt_sound_worlds.proofs.Expressions.{names_at}
@@ -37,12 +37,12 @@ use Rattle.vlt_sound_calls.proofs.TakenOver.{over_made}
 pub changed_last : (os : List Object) (o : Object) (q : Object → Object) → with_changed_object (length os) q (os ++ o ∷ []) ≡ os ++ q o ∷ []
 changed_last [] o q = refl
 changed_last (x ∷ os) o q =
-    behind (slice_get (os ++ o ∷ []) (length os)) ∙ ap (λ rest. x ∷ rest) (changed_last os o q)
+    following (slice_get (os ++ o ∷ []) (length os)) ∙ ap (λ rest. x ∷ rest) (changed_last os o q)
   where
-    behind : (a : Option Object) →
+    following : (a : Option Object) →
         changed_in (suc (length os)) q (x ∷ os ++ o ∷ []) a ≡ x ∷ changed_in (length os) q (os ++ o ∷ []) a
-    behind None = refl
-    behind (Some a) = refl
+    following None = refl
+    following (Some a) = refl
 
 -- a new object of the host's is handed over
 pub agrees_new : {p : Program} {f : Func} {c : Context} {h : HeldMap} {ids : Ids} {hand : List Handed} {frame : Frame} {os : List Object} →
@@ -114,15 +114,15 @@ module _ (p : Program) (s : Scene) (names : Names) (args : List ℕ) where
       let here = known 0 t refl in (
         part_fits p s (names_of (map names args)) t a here.0
             (fits_named p s (λ k. names (stands_for args k)) (names_of (map names args)) t (one a)
-            (λ k i. names_at names args k (here.1 k i)) (fits_behind p s names args t (one a) fits.0)),
+            (λ k i. names_at names args k (here.1 k i)) (fits_after p s names args t (one a) fits.0)),
         parts_fit tys parts (λ i. known (suc i)) (omega arith) fits.1,
       )
 
 -- ---- one piece after another
 
 module _ (p : Program) (f : Func) (c : Context) (h : HeldMap) (ids : Ids) (frame : Frame) (ns args : List ℕ) (heap : ℕ) (goal : Goal) where
-  -- what comes behind the pieces, where so many objects were there before them
-  pub record Behind (hand : List Handed) (tys : List Ty) (os : List Object) (parts : List Part) (w : World) : Type 0 where
+  -- what comes after the pieces, where so many objects were there before them
+  pub record Following (hand : List Handed) (tys : List Ty) (os : List Object) (parts : List Part) (w : World) : Type 0 where
     pub objects : List Object
     pub agrees : Agrees p f c h ids (hand ++ handed_values (map (with_keys args) tys) (map one parts)) frame objects
     pub long : length (map one parts) ≡ length (map (with_keys args) tys)
@@ -130,13 +130,13 @@ module _ (p : Program) (f : Func) (c : Context) (h : HeldMap) (ids : Ids) (frame
     pub same : (m : ℕ) → m < length os → look objects m ≡ look os m
 
   abbrev GoesOn : List Handed → List Ty → List Object → (List Part → World → Step) → Type 0
-  GoesOn hand tys os go = (parts : List Part) (w : World) → Behind hand tys os parts w → Safe goal (go parts w)
+  GoesOn hand tys os go = (parts : List Part) (w : World) → Following hand tys os parts w → Safe goal (go parts w)
 
   -- a first piece before the others
-  behind_more : (hand : List Handed) (ty : Ty) (tys : List Ty) (os now : List Object) (a : Part) (parts : List Part) (w : World) →
+  following_more : (hand : List Handed) (ty : Ty) (tys : List Ty) (os now : List Object) (a : Part) (parts : List Part) (w : World) →
       ((m : ℕ) → m < length os → (m < length now) × (look now m ≡ look os m)) →
-      Behind (hand ++ given (one a) (with_keys args ty) ∷ []) tys now parts w → Behind hand (ty ∷ tys) os (a ∷ parts) w
-  behind_more hand ty tys os now a parts w kept b = record {
+      Following (hand ++ given (one a) (with_keys args ty) ∷ []) tys now parts w → Following hand (ty ∷ tys) os (a ∷ parts) w
+  following_more hand ty tys os now a parts w kept b = record {
     objects = b.objects;
     agrees = subst (λ hand. Agrees p f c h ids hand frame b.objects)
         (append_assoc hand (given (one a) (with_keys args ty) ∷ []) (handed_values (map (with_keys args) tys) (map one parts))) b.agrees;
@@ -162,7 +162,7 @@ module _ (p : Program) (f : Func) (c : Context) (h : HeldMap) (ids : Ids) (frame
       pieces_safe tys ps (hand ++ given (one (world.number z)) (with_keys args ty) ∷ []) os w _ (λ i. known (suc i)) said.1
       (agrees_given agrees (one (world.number z)) (with_keys args ty) refl (number_fits ty (known 0 ty refl).0 said.0)) over
       (λ parts w2 b. on (world.number z ∷ parts) w2
-      (behind_more hand ty tys os os (world.number z) parts w2 (λ m lt. (lt, refl)) b))
+      (following_more hand ty tys os os (world.number z) parts w2 (λ m lt. (lt, refl)) b))
     where
       number_fits : (ty : Ty) → IsHostPayload p ty → IsPieceOf ty (plain z) →
           Fits p (scene c os agrees.heads) frame.keys (with_keys args ty) (one (world.number z))
@@ -180,8 +180,8 @@ module _ (p : Program) (f : Func) (c : Context) (h : HeldMap) (ids : Ids) (frame
       (agrees_new agrees S t s (map (stands_for args) others) (known 0 (owning S t others) refl).0 said.0)
       (over_made ns os w.objects o over)
       (λ parts w2 b. on (owned (length w.objects) ∷ parts) w2
-      (subst (λ n. Behind hand (owning S t others ∷ tys) os (owned n ∷ parts) w2) (sym over.long)
-      (behind_more hand (owning S t others) tys os (os ++ o ∷ []) (owned n) parts w2 there b))))
+      (subst (λ n. Following hand (owning S t others ∷ tys) os (owned n ∷ parts) w2) (sym over.long)
+      (following_more hand (owning S t others) tys os (os ++ o ∷ []) (owned n) parts w2 there b))))
       (is_full heap w.objects)
     where
       n : ℕ

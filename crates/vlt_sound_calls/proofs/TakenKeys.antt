@@ -22,7 +22,7 @@ use Rattle.vlt_sound_calls.specs.Callee.{Among, AreApartBy, caller_key}
 use Rattle.vlt_sound_calls.proofs.Over.{Holds, HoldsAll, holds_object}
 use Rattle.vlt_sound_calls.proofs.Taking.{take_rows, take_other}
 
--- behind rows that take, their own keys are absent
+-- after rows that take, their own keys are absent
 pub take_here : (at : Entry → ℕ) (wants : Entry → maps.Wanted) (es : List Entry) → AreApartBy at es → (h : HeldMap) (e : Entry) →
     Among e es → map_after (take_rows at wants es) h (a_key (at e)) ≡ absent
 take_here at wants [] apart h e i = absurd i

@@ -14,8 +14,8 @@ use Rattle.vlt_sound_worlds.specs.Scoped.{IsScoped, HasKeys}
 use Rattle.vlt_sound_calls.specs.Heads.{HasHead}
 use Rattle.vlt_sound_calls.specs.Returned.{IsEntered, returns_to}
 
--- Where a call breaks no rule on names and types and the held map passes its rows, it ends in no fault, and what the map behind
--- the rows says is so behind it.
+-- Where a call breaks no rule on names and types and the held map passes its rows, it ends in no fault, and what the map after
+-- the rows says is so after it.
 pub record CallsAreSafe (r : Setup) (rest_of : Meaning) : Type 0 where
   pub each : (f : Func) (c : Context) (h : HeldMap) (ids : Ids) (frame : Frame) (w : World) (left : List Tok) (g : ℕ)
       (target : Option ℕ) (keys : List ℕ) (args : List Operand) →

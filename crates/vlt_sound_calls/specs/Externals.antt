@@ -22,7 +22,7 @@ use Rattle.vlt_sound_calls.specs.ReturnHeads.{HasHostHead}
 use Rattle.vlt_sound_calls.specs.Fresh.{IsFreshCall}
 
 -- Where the arguments are handed over and the held map passes the clause's rows, a call of an external ends in no fault, and
--- what the map behind says is so behind it.
+-- what the map after says is so after it.
 pub record ExternalsAreSafe (r : Setup) : Type 0 where
   pub each : (f : Func) (c : Context) (h : HeldMap) (ids : Ids) (frame : Frame) (w : World) (g : Func)
       (keys : List ℕ) (values : List Value) (target : Option ℕ) →

@@ -38,7 +38,7 @@ answer_step heap p f target keys g numbers frame w =
 abbrev pub AreNamed : Func → (keys : List ℕ) → Frame → Type 0
 AreNamed g keys frame = (k : ℕ) → has (tracked_keys g) k ≡ true → (n : ℕ) × (frame.keys (stands_for keys k) ≡ Some n)
 
--- Whatever the numbers are, an answer ends in no fault, and what the held map behind the call says is so behind it.
+-- Whatever the numbers are, an answer ends in no fault, and what the held map after the call says is so after it.
 pub record AnswersAreSafe (r : Setup) : Type 0 where
   pub each : (f : Func) (c : Context) (h : HeldMap) (ids : Ids) (frame : Frame) (w : World) (g : Func)
       (keys : List ℕ) (numbers : List ℤ) (target : Option ℕ) →

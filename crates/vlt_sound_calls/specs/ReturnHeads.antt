@@ -40,7 +40,7 @@ pub record HasHostHead (p : Program) (g : Func) : Type 0 where
   pub known : (e : Entry) → Among e g.clause → (is_new e ≡ true → ⊥) → has (tracked_keys g) e.key ≡ true
   -- which has a type
   pub typed : (k : ℕ) → has (tracked_keys g) k ≡ true → (t : ℕ) × (key_type g k ≡ Some t)
-  -- what the clause says of a key for behind the call are states of its type
+  -- what the clause says of a key for after the call are states of its type
   pub after : (e : Entry) (t s : ℕ) → Among e g.clause → key_type g e.key ≡ Some t → IsTrue (after_set p g e s) →
       IsTrue (all_states p t s)
   -- a `new` key has the type of the result

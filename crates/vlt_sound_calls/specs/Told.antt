@@ -7,7 +7,7 @@ use Rattle.vlt_core.specs.Maps.{HeldMap, wants_held, becomes_held, Row, row_pass
 use Rattle.vlt_core.specs.Rows.{row}
 use Rattle.vlt_sound_calls.specs.Callee.{Among, AreApartBy, caller_key}
 
--- the caller's key of an entry is held in the states that the clause says for behind the call
+-- the caller's key of an entry is held in the states that the clause says for after the call
 abbrev pub told_row : Program → Func → (keys : List ℕ) → Entry → Row
 told_row p f keys e =
     row (a_key (caller_key keys e)) wants_held (becomes_held (states_or_all p f (caller_key keys e) e.after))

@@ -22,10 +22,10 @@ ghost use Rattle.vlt_sound_calls.specs.ReturnHeads.{IsHostCase};
 ghost use Rattle.vlt_sound_calls.specs.TakenOver.{AreTakenOver, AreNamed};
 
 /// Where an answer gives a case, the objects of its keys are taken over in states that it says,
-/// numbers and new objects are its payloads, and what comes behind has a value of its type.
+/// numbers and new objects are its payloads, and what comes after has a value of its type.
 pub fn cases_are_given()
     ensures { (p : Program) (f g : Func) (c : Context) (h : HeldMap) (ids : Ids) (frame : Frame)
-        (w : World) (os real : List Object) (keys states : List ℕ) (heap : ℕ) (behind : HeldMap)
+        (w : World) (os real : List Object) (keys states : List ℕ) (heap : ℕ) (following : HeldMap)
         (wider : Ids) (go : Option Value → Frame → World → Step) (ty : Ty) (t case : ℕ)
         (args : List ℕ) (d : CaseDecl) (ss : List ℕ) (ps : List Piece)
         → Agrees p f c h ids [] frame os →
@@ -37,16 +37,16 @@ pub fn cases_are_given()
         w.objects ≡ with_states (zip (case_objects p g keys frame (case_with case ss ps)) ss) real →
         ((v : Value) (w2 : World) →
         IsGiven p f c h ids frame w2.objects keys (Some ty) (Some v) →
-        Safe (goes_to p f c behind wider []) (go (Some v) frame w2)) →
-        Safe (goes_to p f c behind wider [])
+        Safe (goes_to p f c following wider []) (go (Some v) frame w2)) →
+        Safe (goes_to p f c following wider [])
         (with_result heap p g keys states (case_with case ss ps) frame w go) }
 {}
 
-/// Where a result is a reference to a new object, that is held under its key, and what comes behind
+/// Where a result is a reference to a new object, that is held under its key, and what comes after
 /// has the reference.
 pub fn references_are_given()
     ensures { (p : Program) (f : Func) (c : Context) (h next : HeldMap) (ids : Ids) (frame : Frame)
-        (w : World) (keys : List ℕ) (heap : ℕ) (behind : HeldMap) (wider : Ids)
+        (w : World) (keys : List ℕ) (heap : ℕ) (following : HeldMap) (wider : Ids)
         (go : Option Value → Frame → World → Step) (t k : ℕ) (args : List ℕ) (s : ℕ)
         (states : States) → Agrees p f c h ids [] frame w.objects → fields_of p t ≡ [] →
         IsTrue (all_states p t s) → IsTrue (states s) → IsFresh f c ids [] (stands_for keys k) →
@@ -56,7 +56,7 @@ pub fn references_are_given()
         ((u : Tok) → (u ≡ a_key (stands_for keys k) → ⊥) → next u ≡ h u) →
         ((v : Value) (now : Frame) (w2 : World) →
         IsGiven p f c next ids now w2.objects keys (Some (tracked k t args)) (Some v) →
-        Safe (goes_to p f c behind wider []) (go (Some v) now w2)) →
-        Safe (goes_to p f c behind wider [])
+        Safe (goes_to p f c following wider []) (go (Some v) now w2)) →
+        Safe (goes_to p f c following wider [])
         (with_fresh heap t (Some (binding s (stands_for keys k))) frame w go) }
 {}

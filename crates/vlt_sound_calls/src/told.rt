@@ -10,7 +10,7 @@ ghost use Rattle.vlt_sound_worlds.specs.Agrees.{Handed, Context, Agrees};
 ghost use Rattle.vlt_sound_worlds.specs.Said.{GoTogether, IsAfter};
 ghost use Rattle.vlt_sound_calls.specs.Told.{map_after_telling, AreTellable};
 
-/// Where an answer gives the objects of keys that are held other states of the clause, the held map says those behind it.
+/// Where an answer gives the objects of keys that are held other states of the clause, the held map says those after it.
 pub fn answered_states_are_told()
     ensures { (p : Program) (f g : Func) (c : Context) (h : HeldMap) (ids : Ids)
         (hand : List Handed) (frame : Frame) (os : List Object) (keys : List ℕ)

@@ -9,7 +9,7 @@ use Rattle.vlt_core.specs.Bodies.{flow_of_block, flow_of_arms}
 use Rattle.vlt_core.specs.Derives.{DerivesBlock, DerivesArms}
 use Rattle.vlt_core.specs.KindedHeads.{has}
 use Rattle.vlt_core.specs.KindedScopes.{Ids, left_behind}
-use Rattle.vlt_core.specs.KindedBodies.{arm_cases, owning_toks, with_vars, arm_broken, list_broken, arms_broken, block_rows, arms_rows, ids_behind_block, ids_behind_arms}
+use Rattle.vlt_core.specs.KindedBodies.{arm_cases, owning_toks, with_vars, arm_broken, list_broken, arms_broken, block_rows, arms_rows, ids_following_block, ids_following_arms}
 use Rattle.vlt_core_laws.proofs.Ids.{or_split}
 use Rattle.vlt_meaning.specs.World.{one, World, Frame}
 use Rattle.vlt_meaning.specs.Step.{with_filled}
@@ -24,11 +24,11 @@ use Rattle.vlt_sound_statements.specs.Statements.{IsSafeBlock}
 use Rattle.vlt_sound_statements.proofs.Unbroken.{none_left, none_right}
 use Rattle.vlt_sound_statements.specs.Arms.{AreSafeArms}
 
--- the scope behind the arms is the one before them
-pub arms_vars : (p : Program) (f : Func) (arms : Arms) (ids : Ids) → (ids_behind_arms p f arms ids).vars ≡ ids.vars
+-- the scope after the arms is the one before them
+pub arms_vars : (p : Program) (f : Func) (arms : Arms) (ids : Ids) → (ids_following_arms p f arms ids).vars ≡ ids.vars
 arms_vars p f no_arms ids = refl
 arms_vars p f (arm c vs b rest) ids =
-    arms_vars p f rest (left_behind ids (ids_behind_block p f b (with_vars f vs ids)))
+    arms_vars p f rest (left_behind ids (ids_following_block p f b (with_vars f vs ids)))
 
 -- ---- the arm that is done
 
@@ -92,7 +92,7 @@ module _ (p : Program) (f : Func) (s : Site) (v : ℕ) (h k : HeldMap) where
   arm_at case no_arms ids here broken rows leads among = cc
   arm_at case (arm c vs b rest) ids here broken rows leads among =
       let ids1 = with_vars f vs ids in
-      let ids2 = left_behind ids (ids_behind_block p f b ids1) in
+      let ids2 = left_behind ids (ids_following_block p f b ids1) in
       let s2 = both_empty (arm_broken p f ids v c vs ++ list_broken p f (owning_toks f vs) ids1 b) (arms_broken p f ids2 v rest) broken in
       let s1 = both_empty (arm_broken p f ids v c vs) (list_broken p f (owning_toks f vs) ids1 b) s2.0 in
       let rows_b = none_left (block_rows p f s.around ids1 b) (arms_rows p f s.around ids2 rest) rows in
@@ -140,7 +140,7 @@ module _ (p : Program) (f : Func) (s : Site) (v : ℕ) (h k : HeldMap) where
           (cases_Bool (case == c))
 
       at_next : (ids : Ids) (vs : List ℕ) (b : Block) → IsAt p f s ids →
-          IsAt p f s (left_behind ids (ids_behind_block p f b (with_vars f vs ids)))
+          IsAt p f s (left_behind ids (ids_following_block p f b (with_vars f vs ids)))
       at_next ids vs b here = record {
         entered = here.entered;
         scoped = left_scoped (widens_both (vars_widen f vs ids) (block_widens p f b (with_vars f vs ids))) here.scoped;

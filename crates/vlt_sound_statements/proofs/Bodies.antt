@@ -7,7 +7,7 @@ use Rattle.vlt_core.specs.KindedHeads.{unless}
 use Rattle.vlt_core.specs.declared.rules.TheConstants as rule
 use Rattle.vlt_core.specs.KindedScopes.{Ids}
 use Rattle.vlt_core.specs.KindedBodies as kinded
-use Rattle.vlt_core.specs.KindedBodies.{first_ids, body_rows, end_broken, stmts_rows, ids_behind_stmts}
+use Rattle.vlt_core.specs.KindedBodies.{first_ids, body_rows, end_broken, stmts_rows, ids_following_stmts}
 use Rattle.vlt_meaning.specs.World.{World, Frame}
 use Rattle.vlt_meaning.specs.Step.{Step, goes, jumps, leaves, ends}
 use Rattle.vlt_meaning.specs.Run.{Setup, Meaning, does_stmts}
@@ -84,7 +84,7 @@ module _ (r : Setup) (rest_of : Meaning) (f : Func) (parts : HasSafeParts r rest
       let body = accepted.2.1 in
       let rows_now = subst (λ b. BreakNone (if b then [] else stmts_rows r.program f s.around (first_ids r.program f) false f.body)) internal rows in
       let ends_now = unless_so (kinded.list_ends false f.body) rule.NO_END (subst (λ b. (if b then [] else unless (kinded.list_ends false f.body) rule.NO_END) ≡ []) internal last) in
-      returned accepted.0 accepted.1 body.0 (ids_behind_stmts r.program f f.body (first_ids r.program f)) (does_stmts r rest_of f f.body frame w)
+      returned accepted.0 accepted.1 body.0 (ids_following_stmts r.program f f.body (first_ids r.program f)) (does_stmts r rest_of f f.body frame w)
       (list_stops r rest_of f f.body (list_last f.body ends_now) frame w)
       (stmts_safe r rest_of f parts rest f.body s (start_map r.program f) body.0 (first_ids r.program f) false frame w
       (record { entered = entered; scoped = scoped; outer = λ v e. e }) rows_now body.1 agrees)

@@ -9,7 +9,7 @@ use Rattle.vlt_core.specs.KindedHeads.{unless, has}
 use Rattle.vlt_core.specs.declared.rules.TheConstants as rule
 use Rattle.vlt_core.specs.KindedScopes.{Ids, at_block_start, left_behind}
 use Rattle.vlt_core.specs.KindedOperands.{misfit, type_of_expr, expr_broken, value_broken}
-use Rattle.vlt_core.specs.KindedBodies.{in_loop, list_broken, row_broken, form_rows, block_rows, stmts_rows, ids_behind, ids_behind_block, ids_behind_stmts, ends}
+use Rattle.vlt_core.specs.KindedBodies.{in_loop, list_broken, row_broken, form_rows, block_rows, stmts_rows, ids_following, ids_following_block, ids_following_stmts, ends}
 use Rattle.vlt_core_laws.specs.Scoped.{is_bound}
 use Rattle.vlt_core_laws.proofs.Ids.{bound_left, bound_right}
 use Rattle.vlt_core_laws.proofs.Listed.{listed_made}
@@ -42,15 +42,15 @@ pub below_itself : (h : HeldMap) → IsBelow h h
 below_itself h = record { each = λ t. record { kind = refl; within = record { each = λ s e. e } } }
 
 -- a block's scope is the one before it
-block_vars : (p : Program) (f : Func) (b : Block) (ids : Ids) → (ids_behind_block p f b ids).vars ≡ ids.vars
+block_vars : (p : Program) (f : Func) (b : Block) (ids : Ids) → (ids_following_block p f b ids).vars ≡ ids.vars
 block_vars p f (block ss bound end) ids = refl
 
 module _ (r : Setup) (rest_of : Meaning) (f : Func)
     (typed : IsTyped r.program f) (keyed : HasKeys f) where
-  -- the scope behind a block, at the same site
-  at_behind : (s : Site) (ids : Ids) (b : Block) → IsAt r.program f s ids →
-      IsAt r.program f s (ids_behind_block r.program f b ids)
-  at_behind s ids b at = record {
+  -- the scope after a block, at the same site
+  at_after : (s : Site) (ids : Ids) (b : Block) → IsAt r.program f s ids →
+      IsAt r.program f s (ids_following_block r.program f b ids)
+  at_after s ids b at = record {
     entered = at.entered;
     scoped = block_scoped r.program b at.scoped;
     outer = λ v e. (block_widens r.program f b ids).vars v (at.outer v e);
@@ -85,7 +85,7 @@ module _ (r : Setup) (rest_of : Meaning) (f : Func)
         (λ v kept w left. record { allowed = left.allowed; returned = left.returned })
       where
         last : Ids
-        last = ids_behind_stmts r.program f ss (at_block_start ids)
+        last = ids_following_stmts r.program f ss (at_block_start ids)
 
         inner : Site
         inner = record s { left = s.left ++ bound }
@@ -108,10 +108,10 @@ module _ (r : Setup) (rest_of : Meaning) (f : Func)
   form_kinded : (s : Site) (ids : Ids) (ended : Bool) (at : ℕ) (form : Form) (rest : Stmts) →
       AreKinded r.program f s.around ids ended (next at form rest) → IsKindedForm r.program f s.around ids form
   form_kinded s ids ended at form rest kinded = record {
-    row = (both_empty (unless (not ended) rule.BEHIND_END) (row_broken r.program f s.around ids form) kinded.0).1;
+    row = (both_empty (unless (not ended) rule.AFTER_END) (row_broken r.program f s.around ids form) kinded.0).1;
     rows =
         none_left (form_rows r.program f s.around ids form)
-        (stmts_rows r.program f s.around (ids_behind r.program f form ids) (ends form) rest) kinded.1;
+        (stmts_rows r.program f s.around (ids_following r.program f form ids) (ends form) rest) kinded.1;
   }
 
   module _ (at : ℕ) (form : Form) (rest : Stmts) (safe : IsSafeForm r rest_of f form)
@@ -119,9 +119,9 @@ module _ (r : Setup) (rest_of : Meaning) (f : Func)
     pub next_is_safe : AreSafe r f (next at form rest) (does_stmts r rest_of f (next at form rest))
     next_is_safe s h k ids ended frame w here kinded leads agrees =
         let m = leads.0 in
-        let ids2 = ids_behind r.program f form ids in
+        let ids2 = ids_following r.program f form ids in
         let first = form_kinded s ids ended at form rest kinded in
-        then_safe (comes_to r.program f s m ids2) (comes_to r.program f s k (ids_behind_stmts r.program f rest ids2))
+        then_safe (comes_to r.program f s m ids2) (comes_to r.program f s k (ids_following_stmts r.program f rest ids2))
         (does_form r rest_of f form frame w) (does_stmts r rest_of f rest)
         (safe s h m ids frame w here first leads.1 agrees)
         (λ frame w now. after s m k ids2 (ends form) frame w
@@ -151,23 +151,23 @@ module _ (r : Setup) (rest_of : Meaning) (f : Func)
   module _ (e : Expr) (a b : Block) (safe_a : IsSafeBlock r rest_of f a) (safe_b : IsSafeBlock r rest_of f b) where
     pub choose_is_safe : IsSafeForm r rest_of f (choose e a b)
     choose_is_safe s h k ids frame w here kinded leads agrees =
-        let ids2 = ids_behind_block r.program f a ids in
+        let ids2 = ids_following_block r.program f a ids in
         let s2 = both_empty (value_broken r.program f ids (Some bool) e ++ list_broken r.program f [] ids a) (list_broken r.program f [] ids2 b) kinded.row in
         let s1 = both_empty (value_broken r.program f ids (Some bool) e) (list_broken r.program f [] ids a) s2.0 in
         let rows_a = none_left (block_rows r.program f s.around ids a) (block_rows r.program f s.around ids2 b) kinded.rows in
         let rows_b = none_right (block_rows r.program f s.around ids a) (block_rows r.program f s.around ids2 b) kinded.rows in
         let same = stays_passed (expr_rows r.program f e) h (expr_stays r.program f e) in
         let vars_a : ids2.vars ≡ ids.vars = block_vars r.program f a ids in
-        let vars_b : (ids_behind_block r.program f b ids2).vars ≡ ids2.vars = block_vars r.program f b ids2 in
-        let G = comes_to r.program f s k (ids_behind_block r.program f b ids2) in
+        let vars_b : (ids_following_block r.program f b ids2).vars ≡ ids2.vars = block_vars r.program f b ids2 in
+        let G = comes_to r.program f s k (ids_following_block r.program f b ids2) in
         condition_safe w agrees G e _ s1.0 leads.0
         (λ z. choice_safe G (is_true z) (does_block r rest_of f a frame w) (does_block r rest_of f b frame w)
         (weaker (comes_to r.program f s k ids2) G (does_block r rest_of f a frame w)
-        (λ frame w now. agrees_in (ids_behind_block r.program f b ids2) (λ u i. ap (λ vs. has vs u) (sym vars_b) ∙ i) now)
+        (λ frame w now. agrees_in (ids_following_block r.program f b ids2) (λ u i. ap (λ vs. has vs u) (sym vars_b) ∙ i) now)
         (λ c frame w jumped. jumped) (λ v kept w left. left)
         (safe_a s h k [] ids frame w here (record { listed = s1.1; rows = rows_a })
         (subst (λ m. DerivesBlock s.breaks s.turns m (flow_of_block r.program f s.left a) k) same leads.1) agrees))
-        (safe_b s h k [] ids2 frame w (at_behind s ids a here) (record { listed = s2.1; rows = rows_b })
+        (safe_b s h k [] ids2 frame w (at_after s ids a here) (record { listed = s2.1; rows = rows_b })
         (subst (λ m. DerivesBlock s.breaks s.turns m (flow_of_block r.program f s.left b) k) same leads.2)
         (agrees_in ids2 (λ u i. ap (λ vs. has vs u) (sym vars_a) ∙ i) agrees)))
 
@@ -180,10 +180,10 @@ module _ (r : Setup) (rest_of : Meaning) (f : Func)
         let now = agrees_below leads.1 agrees in
         let s1 = both_empty (value_broken r.program f ids (Some bool) e) (list_broken r.program f [] ids b) kinded.row in
         let same = stays_passed (expr_rows r.program f e) i (expr_stays r.program f e) in
-        let ids2 = ids_behind_block r.program f b ids in
+        let ids2 = ids_following_block r.program f b ids in
         let vars : ids2.vars ≡ ids.vars = block_vars r.program f b ids in
         let G = comes_to r.program f s k ids2 in
-        let behind = agrees_below (subst (λ m. IsBelow m k) same leads.3) now in
+        let following = agrees_below (subst (λ m. IsBelow m k) same leads.3) now in
         let w1 = record w { fuel = w.fuel - 1 } in
         let body : Site = record {
           context = s.context;
@@ -209,7 +209,7 @@ module _ (r : Setup) (rest_of : Meaning) (f : Func)
         (λ frame w jumped. again frame w jumped.agrees)
         (λ frame w jumped. agrees_in ids2 (λ u e. ap (λ vs. has vs u) (sym vars) ∙ e) jumped.agrees)
         (λ v kept w left. record { allowed = left.allowed; returned = left.returned }))
-        (agrees_in ids2 (λ u e. ap (λ vs. has vs u) (sym vars) ∙ e) behind)))
+        (agrees_in ids2 (λ u e. ap (λ vs. has vs u) (sym vars) ∙ e) following)))
 
   -- ---- scopes
 

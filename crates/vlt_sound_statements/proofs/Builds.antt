@@ -26,7 +26,7 @@ use Rattle.vlt_sound_worlds.specs.Members.{In}
 use Rattle.vlt_sound_worlds.specs.Keys.{IsOfType}
 use Rattle.vlt_sound_worlds.specs.Scene.{Scene}
 use Rattle.vlt_sound_worlds.specs.Fits.{Names, names_of, option_join, header_type, FitParts, FitKeys, IsCase, IsOne, Fits}
-use Rattle.vlt_sound_worlds.proofs.Fits.{fits_named, fits_behind}
+use Rattle.vlt_sound_worlds.proofs.Fits.{fits_named, fits_after}
 use Rattle.vlt_sound_worlds.specs.Agrees.{FitHanded, Context, scene, Agrees}
 use Rattle.vlt_sound_worlds.specs.Typed.{IsTyped}
 use Rattle.vlt_sound_worlds.specs.Safe.{Safe, goes_to}
@@ -79,7 +79,7 @@ module _ (p : Program) (s : Scene) (names : Names) (args : List ℕ) where
       let here = known 0 t refl in
       let now =
       fits_named p s (λ k. names (stands_for args k)) (names_of (map names args)) t a
-      (λ k i. names_at names args k (here.1 k i)) (fits_behind p s names args t a fits.0) in
+      (λ k i. names_at names args k (here.1 k i)) (fits_after p s names args t a fits.0) in
       let part = payload_one p s (names_of (map names args)) t a here.0 now in
       let rest = parts_fit types values (λ i. known (suc i)) (omega arith) fits.1 in
       record {

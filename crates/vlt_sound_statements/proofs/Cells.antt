@@ -13,7 +13,7 @@ use Rattle.vlt_sound_worlds.specs.Scene.{Scene}
 use Rattle.vlt_sound_worlds.specs.Fits.{Names, Fits}
 use Rattle.vlt_sound_worlds.specs.Agrees.{FitCells, Handed, values_of, FitHanded}
 use Rattle.vlt_sound_worlds.proofs.Plain.{plain_value}
-use Rattle.vlt_sound_worlds.proofs.Fields.{owns_behind}
+use Rattle.vlt_sound_worlds.proofs.Fields.{owns_after}
 
 -- the objects of all owning fields
 abbrev pub out_of : List FieldDecl → List Value → List ℕ
@@ -120,7 +120,7 @@ given_types p s names args [] [] fit = refl
 given_types p s names args [] (a ∷ cells) fit = absurd fit
 given_types p s names args (d ∷ ds) [] fit = absurd fit
 given_types p s names args (d ∷ ds) (a ∷ cells) fit =
-    by (is_owning d.ty) (is_owning (with_keys args d.ty)) (owns_behind args d.ty)
+    by (is_owning d.ty) (is_owning (with_keys args d.ty)) (owns_after args d.ty)
     (given_types p s names args ds cells fit.1)
   where
     by : (b c : Bool) → c ≡ b →
@@ -146,19 +146,19 @@ given_owning args (d ∷ ds) (a ∷ cells) = by (is_owning d.ty) refl (given_own
   where
     by : (b : Bool) → is_owning d.ty ≡ b → AreOwningHanded (given_out args ds cells) →
         AreOwningHanded (if b then record { value = a; type = with_keys args d.ty } ∷ given_out args ds cells else given_out args ds cells)
-    by true is rest = (owns_behind args d.ty ∙ is, rest)
+    by true is rest = (owns_after args d.ty ∙ is, rest)
     by false is rest = rest
 
 -- what fits its field fits the field's type with the keys that stand for the header
-pub given_fit : (p : Program) (s : Scene) (names behind : Names) (args : List ℕ) (ds : List FieldDecl)
-    (cells : List Value) → FitCells p s behind ds cells →
-    ((i : ℕ) (d : FieldDecl) (a : Value) → slice_get ds i ≡ Some d → Fits p s behind d.ty a → Fits p s names (with_keys args d.ty) a) →
+pub given_fit : (p : Program) (s : Scene) (names following : Names) (args : List ℕ) (ds : List FieldDecl)
+    (cells : List Value) → FitCells p s following ds cells →
+    ((i : ℕ) (d : FieldDecl) (a : Value) → slice_get ds i ≡ Some d → Fits p s following d.ty a → Fits p s names (with_keys args d.ty) a) →
     FitHanded p s names (given_out args ds cells)
-given_fit p s names behind args [] [] fit to = tt
-given_fit p s names behind args [] (a ∷ cells) fit to = absurd fit
-given_fit p s names behind args (d ∷ ds) [] fit to = absurd fit
-given_fit p s names behind args (d ∷ ds) (a ∷ cells) fit to =
-    by (is_owning d.ty) (given_fit p s names behind args ds cells fit.1 (λ i. to (suc i)))
+given_fit p s names following args [] [] fit to = tt
+given_fit p s names following args [] (a ∷ cells) fit to = absurd fit
+given_fit p s names following args (d ∷ ds) [] fit to = absurd fit
+given_fit p s names following args (d ∷ ds) (a ∷ cells) fit to =
+    by (is_owning d.ty) (given_fit p s names following args ds cells fit.1 (λ i. to (suc i)))
   where
     by : (b : Bool) → FitHanded p s names (given_out args ds cells) →
         FitHanded p s names (if b then record { value = a; type = with_keys args d.ty } ∷ given_out args ds cells else given_out args ds cells)

@@ -25,7 +25,7 @@ module _ (g g' : Goal) where
   then_safe (leaves v kept w) go safe on jumped left = left v kept w safe
   then_safe (ends o w) go safe on jumped left = safe
 
-  -- the body of a loop: a `continue` turns too, and a `break` goes on behind the loop
+  -- the body of a loop: a `continue` turns too, and a `break` goes on after the loop
   pub turn_safe : (a : Step) (go : Frame → World → Step) → Safe g a →
       ((frame : Frame) (w : World) → g.goes frame w → Safe g' (go frame w)) →
       ((frame : Frame) (w : World) → g.jumps true frame w → Safe g' (go frame w)) →

@@ -83,8 +83,8 @@ module _ {p : Program} {f : Func} {c : Context} {h : HeldMap} {ids : Ids} {hand 
         (λ off. ((look os m).owner, e.moves.others m off ∙ with_itself (look os m)))
         (in_or_not m ys)
 
-    behind : (m : ℕ) → (q : Owner) × (look os' m ≡ with_owner q (look os m))
-    behind m =
+    following : (m : ℕ) → (q : Owner) × (look os' m ≡ with_owner q (look os m))
+    following m =
         let b = before m in
         ⊎_elim
         (λ t. (gone, e.ended.ends.those m t ∙ ap (with_owner gone) b.1))
@@ -92,13 +92,13 @@ module _ {p : Program} {f : Func} {c : Context} {h : HeldMap} {ids : Ids} {hand 
         (cases_Bool (e.ended.test m))
 
     pub types : (m : ℕ) → (look os' m).type ≡ (look os m).type
-    types m = ap (λ o. o.type) (behind m).1
+    types m = ap (λ o. o.type) (following m).1
 
     pub states : (m : ℕ) → (look os' m).state ≡ (look os m).state
-    states m = ap (λ o. o.state) (behind m).1
+    states m = ap (λ o. o.state) (following m).1
 
     pub cells : (m : ℕ) → (look os' m).cells ≡ (look os m).cells
-    cells m = ap (λ o. o.cells) (behind m).1
+    cells m = ap (λ o. o.cells) (following m).1
 
     pub ends_now : (m : ℕ) → e.ended.test m ≡ true → (look os' m).owner ≡ gone
     ends_now m t = ap (λ o. o.owner) (e.ended.ends.those m t)

@@ -11,7 +11,7 @@ use Rattle.vlt_core.specs.Bodies.{flow_of, flow_of_block}
 use Rattle.vlt_core.specs.Derives.{Derives, DerivesBlock}
 use Rattle.vlt_core.specs.KindedHeads.{has}
 use Rattle.vlt_core.specs.KindedScopes.{Ids, with_key as with_key_bound, own_key, left_behind}
-use Rattle.vlt_core.specs.KindedBodies.{focus_broken, with_focus, in_focus, list_broken, ids_behind_block}
+use Rattle.vlt_core.specs.KindedBodies.{focus_broken, with_focus, in_focus, list_broken, ids_following_block}
 use Rattle.vlt_meaning.specs.World.{Value, one, reference, adopted_by, above, gone, Object, Frame, World, is_lent_under, missing, other_object, wrong_state, not_held}
 use Rattle.vlt_meaning.specs.World as world
 use Rattle.vlt_meaning.specs.Found.{◌>>=◌, Named, or_fault, if_so}
@@ -50,7 +50,7 @@ use Rattle.vlt_sound_statements.proofs.FocusOpening.{with_foci, agrees_foci, ope
 use Rattle.vlt_sound_statements.proofs.Taking.{agrees_taken}
 use Rattle.vlt_sound_statements.proofs.Facts.{absent_is, lent_is, IsFocus, focus_known, binding_within}
 
--- what comes behind the block of a focus; nothing leaves it by a jump or a return
+-- what comes after the block of a focus; nothing leaves it by a jump or a return
 ending_safe : (g g' : Goal) (r : Setup) (k q : Reference) (a n : ℕ) (s : Step) → Safe g s →
     ((frame : Frame) (w : World) → g.goes frame w → Safe g' (focus_end_step r k q a n frame w)) →
     ((c : Bool) (frame : Frame) (w : World) → g.jumps c frame w → ⊥) →
@@ -317,7 +317,7 @@ pub record FocusAt (p : Program) (f : Func) (y z : ℕ) (b : Block) (frame : Fra
   pub ids : Ids
   pub before : HeldMap
   pub last : HeldMap
-  pub behind : HeldMap
+  pub following : HeldMap
   pub here : IsAt p f site ids
   pub agrees : Agrees p f site.context before ids [] frame w.objects
   pub broken : focus_broken p f ids y z ≡ []
@@ -326,7 +326,7 @@ pub record FocusAt (p : Program) (f : Func) (y z : ℕ) (b : Block) (frame : Fra
   pub pass : CanPass (begin_rows p fact) before
   pub leads : DerivesBlock site.breaks site.turns (map_after (begin_rows p fact) before) (flow_of_block p f site.left b) last
   pub pass_end : CanPass (end_rows p fact) last
-  pub below : IsBelow (map_after (end_rows p fact) last) behind
+  pub below : IsBelow (map_after (end_rows p fact) last) following
 
 pub starts_with : (p : Program) (f : Func) (y z : ℕ) (b : Block) (left : List Tok) {ids : Ids} (fact : IsFocus f ids y z) →
     rows_of p f left (focus y z b) ≡ begin_rows p fact
@@ -351,7 +351,7 @@ module _ (p : Program) (f : Func) (y z : ℕ) (b : Block) (s : Site) (h k : Held
     ids = ids;
     before = h;
     last = leads.1.0;
-    behind = k;
+    following = k;
     here = here;
     agrees = agrees;
     broken = unbroken.0;
@@ -457,18 +457,18 @@ module _ (r : Setup) (f : Func) (typed : IsTyped r.program f) (keyed : HasKeys f
   -- ---- where it ends
 
   abbrev last : Ids
-  last = ids_behind_block r.program f b inner_ids
+  last = ids_following_block r.program f b inner_ids
 
   abbrev G : Goal
-  G = comes_to r.program f x.site x.behind (left_behind x.ids last)
+  G = comes_to r.program f x.site x.following (left_behind x.ids last)
 
   -- nothing leaves the block by a jump or a return
-  pub focus_ends : (s : Step) → Safe (comes_to r.program f focus_site x.last (ids_behind_block r.program f b inner_ids)) s →
-      Safe (comes_to r.program f x.site x.behind (left_behind x.ids (ids_behind_block r.program f b inner_ids)))
+  pub focus_ends : (s : Step) → Safe (comes_to r.program f focus_site x.last (ids_following_block r.program f b inner_ids)) s →
+      Safe (comes_to r.program f x.site x.following (left_behind x.ids (ids_following_block r.program f b inner_ids)))
       (focus_end r guard_is bound_is begun.guard begun.number s)
   focus_ends s safe =
       ending_safe (comes_to r.program f focus_site x.last last) G r guard_is bound_is begun.guard begun.number s safe
-      (λ frame w now. ends_well r f w x.fact.guard_key x.fact.key begun.guard begun.number now z x.fact.type x.fact.args (left_behind x.ids last) x.behind G
+      (λ frame w now. ends_well r f w x.fact.guard_key x.fact.key begun.guard begun.number now z x.fact.type x.fact.args (left_behind x.ids last) x.following G
       (λ frame w done. done) x.fact.tracked_is
       ((block_widens r.program f b inner_ids).vars z z_there)
       (λ v e. (widens_both (focus_widens f z x.ids) (block_widens r.program f b inner_ids)).vars v e)
@@ -482,10 +482,10 @@ module _ (r : Setup) (f : Func) (typed : IsTyped r.program f) (keyed : HasKeys f
 module _ (r : Setup) (rest_of : Meaning) (f : Func) (typed : IsTyped r.program f) (keyed : HasKeys f)
     (y z : ℕ) (b : Block) (safe : IsSafeBlock r rest_of f b) where
   by_facts : {frame : Frame} {w : World} (x : FocusAt r.program f y z b frame w) →
-      Safe (comes_to r.program f x.site x.behind (left_behind x.ids (ids_behind_block r.program f b (with_focus f z x.ids))))
+      Safe (comes_to r.program f x.site x.following (left_behind x.ids (ids_following_block r.program f b (with_focus f z x.ids))))
       (does_form r rest_of f (focus y z b) frame w)
   by_facts {frame} {w} x =
-      let G = comes_to r.program f x.site x.behind (left_behind x.ids (ids_behind_block r.program f b (with_focus f z x.ids))) in
+      let G = comes_to r.program f x.site x.following (left_behind x.ids (ids_following_block r.program f b (with_focus f z x.ids))) in
       let frame' = focus_frame r f typed keyed x in
       let w' = focus_world r f typed keyed x in
       found_safe G (or_fault missing (guarded_of f y)) (guard_is r f typed keyed x) w _

@@ -25,7 +25,7 @@ use Rattle.vlt_sound_worlds.specs.Keys.{KeyAgrees, IsUnder, IsOfType}
 use Rattle.vlt_sound_worlds.proofs.KeysLaws.{key_kept, key_held, none_under}
 use Rattle.vlt_sound_worlds.specs.Scene.{Scene, IsOf, Grows}
 use Rattle.vlt_sound_worlds.specs.Fits.{Names, names_of}
-use Rattle.vlt_sound_worlds.proofs.Fits.{fits_named, fits_behind}
+use Rattle.vlt_sound_worlds.proofs.Fits.{fits_named, fits_after}
 use Rattle.vlt_sound_worlds.specs.Agrees.{HasVar, FitCells, ObjectFits, Handed, values_of, FitHanded, Pin, Context, PinsAgree, scene, stock, Agrees}
 use Rattle.vlt_sound_worlds.specs.Typed.{IsTyped}
 use Rattle.vlt_sound_worlds.proofs.Kept.{KeepsOwned, cells_kept, object_kept}
@@ -64,7 +64,7 @@ module _ (p : Program) (s : Scene) (names names' : Names) (k : ℕ) (args : List
   cells_fit (d ∷ ds) (a ∷ cells) within long speaks fits = (
     fits_named p s (λ j. names' (stands_for args j)) (names_of (map names' args)) d.ty a
         (λ j i. names_at names' args j (within 0 d refl j i))
-        (fits_behind p s names' args d.ty a
+        (fits_after p s names' args d.ty a
         (fits_named p s names names' (with_keys args d.ty) a
         (λ j i. same j (λ e. speaks.0 (subst (λ j. In j (keys_of_ty (with_keys args d.ty))) e i))) fits.0)),
     cells_fit ds cells (λ i d. within (suc i) d) (omega arith) speaks.1 fits.1,

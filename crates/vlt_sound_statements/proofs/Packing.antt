@@ -72,7 +72,7 @@ absent_not_in (k ∷ ks) h j e pass (inr i) = absent_not_in ks (row_passed (pack
     (λ other. row_other (pack_row k) h (a_key j) (λ q. other (key_same q)) ∙ e)
     (cases_eq j k.key)) pass.1 i
 
--- behind the rows the keys are absent, and nothing else has changed
+-- after the rows the keys are absent, and nothing else has changed
 pub packed_absent : (ks : List KeyIn) (h : HeldMap) (j : ℕ) → In j (keys_in_list ks) →
     map_after (map pack_row ks) h (a_key j) ≡ absent
 packed_absent [] h j i = absurd i

@@ -78,7 +78,7 @@ module _ (r : Setup) (f : Func) (typed : IsTyped r.program f) (keyed : HasKeys f
   step_safe (open_into x vs) c h ids frame w scoped agrees kinded pass = open_safe r f typed w agrees x vs kinded pass
   step_safe (adopt y x q) c h ids frame w scoped agrees kinded pass = adopt_safe r f typed w agrees y x q kinded pass
 
-  -- at a site, where the map behind allows more
+  -- at a site, where the map after allows more
   pub form_safe : (rest_of : Meaning) (s : Simple) → IsSafeForm r rest_of f (simple s)
   form_safe rest_of s site h k ids frame w at kinded leads agrees =
       weaker (goes_to r.program f site.context (map_after (simple_rows r.program f s) h) (ids_after f s ids) [])

@@ -34,14 +34,14 @@ all_stand args [] within k i = absurd i
 all_stand args (j ∷ ks) within k (inl e) = subst (λ k. In k args) (sym e) (stands_in args j (within j (inl refl)))
 all_stand args (j ∷ ks) within k (inr i) = all_stand args ks (λ m l. within m (inr l)) k i
 
-keys_behind : (args : List ℕ) (ty : Ty) → keys_of_ty (with_keys args ty) ≡ map (stands_for args) (keys_of_ty ty)
-keys_behind args int = refl
-keys_behind args bool = refl
-keys_behind args (tracked k t others) = refl
-keys_behind args (owning S t others) = refl
-keys_behind args (guarded k t others) = refl
-keys_behind args (variant t others) = refl
-keys_behind args (owning_variant t others) = refl
+keys_after : (args : List ℕ) (ty : Ty) → keys_of_ty (with_keys args ty) ≡ map (stands_for args) (keys_of_ty ty)
+keys_after args int = refl
+keys_after args bool = refl
+keys_after args (tracked k t others) = refl
+keys_after args (owning S t others) = refl
+keys_after args (guarded k t others) = refl
+keys_after args (variant t others) = refl
+keys_after args (owning_variant t others) = refl
 
 -- the arguments of a reference's object are keys of its type
 object_keys : (ty : Ty) (t : ℕ) (args : List ℕ) → object_in (Some ty) ≡ Some (t, args) → (k : ℕ) → In k args →
@@ -123,7 +123,7 @@ module _ {p : Program} {f : Func} (typed : IsTyped p f) (ids : Ids)
           (ap unless_owning known ∙ ap (λ b. if b then None else Some (with_keys args d.decl.ty)) not_own) not_own fits in
           let count : length (header_of p t) ≡ length args = sym dec.count ∙ ap length same in
           let i1 : In k (keys_of_ty (with_keys args d.decl.ty)) = subst (λ w. In k (keys_of_ty w)) type j in
-          let i2 : In k (map (stands_for args) (keys_of_ty d.decl.ty)) = subst (In k) (keys_behind args d.decl.ty) i1 in
+          let i2 : In k (map (stands_for args) (keys_of_ty d.decl.ty)) = subst (In k) (keys_after args d.decl.ty) i1 in
           let i3 : In k args =
           all_stand args (keys_of_ty d.decl.ty) (λ m l. subst (λ n. m < n) count (typed.fields t i d.decl d.at m l)) k i2 in
           there x k ty u.scoped is (object_keys ty t args object k i3)

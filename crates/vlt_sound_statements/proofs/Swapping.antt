@@ -24,7 +24,7 @@ use Rattle.vlt_sound_worlds.specs.Keys.{IsUnder}
 use Rattle.vlt_sound_worlds.proofs.KeysLaws.{key_kept}
 use Rattle.vlt_sound_worlds.specs.Scene.{Grows}
 use Rattle.vlt_sound_worlds.specs.Fits.{Names, names_of, Fits}
-use Rattle.vlt_sound_worlds.proofs.Fits.{fits_kept, fits_named, fits_behind}
+use Rattle.vlt_sound_worlds.proofs.Fits.{fits_kept, fits_named, fits_after}
 use Rattle.vlt_sound_worlds.specs.Agrees.{HasVar, VarsFit, VarsAgree, ObjectFits, Handed, Context, scene, stock, Agrees}
 use Rattle.vlt_sound_worlds.specs.Typed.{IsTyped}
 use Rattle.vlt_sound_worlds.proofs.Kept.{KeepsOwned, cells_in, object_kept, old_cells_kept}
@@ -249,7 +249,7 @@ module _ {p : Program} {f : Func} (typed : IsTyped p f) {c : Context} {h : HeldM
           (fits_named p (scene c os agrees.heads) (λ k. frame.keys (stands_for at.args k)) names d.ty new
           (λ k j. ap (λ hs. names_of hs k) at.touch.of.headed ∙
           names_at frame.keys at.args k (subst (λ m. k < m) (sym at.count) (typed.fields at.type i d at.field.at k j)))
-          (fits_behind p (scene c os agrees.heads) frame.keys at.args d.ty new fits_new)) in
+          (fits_after p (scene c os agrees.heads) frame.keys at.args d.ty new fits_new)) in
           record {
             cells = rw ((shuffles n).type, cells_here)
                 (cells_set p (scene c os3 agrees.heads) names (fields_of p (look os n).type) (look os n).cells i d new

@@ -28,7 +28,7 @@ use Rattle.vlt_sound_worlds.specs.Agrees.{HasVar, InScope, Context, scene, Agree
 use Rattle.vlt_sound_worlds.specs.Typed.{IsTyped}
 use Rattle.vlt_sound_worlds.specs.Safe.{Goal, Safe, goes_to}
 use Rattle.vlt_sound_worlds.proofs.Empty.{both_empty, both_so, unless_so}
-use Rattle.vlt_sound_worlds.proofs.Rows.{pass_behind, passed_split, stays_passed, touch_stays, tok_is}
+use Rattle.vlt_sound_worlds.proofs.Rows.{pass_after, passed_split, stays_passed, touch_stays, tok_is}
 use Rattle.vlt_sound_worlds.proofs.Touch.{used, tracked_held, named}
 use Rattle.vlt_sound_worlds.proofs.Expressions.{Read, read}
 use Rattle.vlt_sound_worlds.proofs.Plain.{keys_same}
@@ -36,7 +36,7 @@ use Rattle.vlt_sound_worlds.proofs.Safe.{found_safe, so_safe}
 use Rattle.vlt_sound_worlds.proofs.Kept.{cells_in}
 use Rattle.vlt_sound_worlds.proofs.Leaving.{length_changed}
 use Rattle.vlt_sound_worlds.proofs.Adopting.{object_found}
-use Rattle.vlt_sound_worlds.proofs.Fields.{owns_behind}
+use Rattle.vlt_sound_worlds.proofs.Fields.{owns_after}
 use Rattle.vlt_sound_worlds.proofs.Owning.{full_is}
 use Rattle.vlt_sound_worlds.proofs.TypeFacts.{tracked_known, fits_wider}
 use Rattle.vlt_sound_worlds.specs.Moved.{ArePassing, IsMoved}
@@ -285,7 +285,7 @@ module _ (r : Setup) (f : Func)
       touch_kept r.program f ids x i x'.key x'.type x'.args dec.decl facts.decl
       (both_empty (use_broken f ids x) _ s1.0).0 x'.is dec.is field in
       let rowing : Row = row (a_var v) wants_full becomes_full in
-      let ok = pass_behind (touch_rows r.program f x i) (rowing ∷ []) h (touch_stays r.program f x i) pass in
+      let ok = pass_after (touch_rows r.program f x i) (rowing ∷ []) h (touch_stays r.program f x i) pass in
       let filled = full_is (h (a_var v)) ok.1.0 in
       let map : h ≡ map_after (touch_rows r.program f x i ++ rowing ∷ []) h =
       sym
@@ -307,7 +307,7 @@ module _ (r : Setup) (f : Func)
       same_Some (with_keys R.args R.field.decl.ty) (with_keys x'.args facts.decl.ty)
       (sym R.field_is ∙ (ap (λ o. field_type_in o (field_decl r.program o i)) (ap object_in x'.is) ∙ ap (field_type_in (Some (x'.type, x'.args))) facts.at)) in
       let owning : is_owning (with_keys R.args R.field.decl.ty) ≡ true =
-      ap is_owning type ∙ (owns_behind x'.args facts.decl.ty ∙ facts.owning) in
+      ap is_owning type ∙ (owns_after x'.args facts.decl.ty ∙ facts.owning) in
       let fits : misfit (Some (with_keys R.args R.field.decl.ty)) (Some v'.ty) ≡ [] =
       subst (λ o. misfit (Some (with_keys R.args R.field.decl.ty)) o ≡ []) v'.is
       (subst (λ t. misfit (Some t) (var_type f v) ≡ []) (sym type) facts.fits) in

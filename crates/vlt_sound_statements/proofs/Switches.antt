@@ -13,7 +13,7 @@ use Rattle.vlt_core.specs.KindedHeads as heads
 use Rattle.vlt_core.specs.declared.rules.TheConstants as rule
 use Rattle.vlt_core.specs.KindedScopes.{Ids, use_broken}
 use Rattle.vlt_core.specs.KindedStatements.{variant_args, payload_types, payload_types_in, case_broken, is_variant_type}
-use Rattle.vlt_core.specs.KindedBodies.{switch_broken, arm_cases, arm_vars_broken, arms_broken, arms_rows, with_vars, owning_toks, ids_behind_block, ids_behind_arms}
+use Rattle.vlt_core.specs.KindedBodies.{switch_broken, arm_cases, arm_vars_broken, arms_broken, arms_rows, with_vars, owning_toks, ids_following_block, ids_following_arms}
 use Rattle.vlt_core.specs.Bodies.{flow_of_arms}
 use Rattle.vlt_core.specs.Derives.{DerivesArms}
 use Rattle.vlt_meaning.specs.World.{Value, Object, one, of_case, objects_in, objects_in_part, World, Frame, missing}
@@ -291,7 +291,7 @@ pub record IsSwitch (p : Program) (f : Func) (s : Scene) (frame : Frame) (v : �
   pub has : frame.vars v ≡ Some value
   pub fits : Fits p s frame.keys ty value
 
--- an owning variable is empty behind it
+-- an owning variable is empty after it
 abbrev pub emptying : Func → (v : ℕ) → List Row
 emptying f v = if is_owning_var f v then empty_row v ∷ [] else []
 
@@ -331,14 +331,14 @@ pub record SwitchAt (p : Program) (f : Func) (v : ℕ) (arms : Arms) (frame : Fr
   pub site : Site
   pub ids : Ids
   pub before : HeldMap
-  pub behind : HeldMap
+  pub following : HeldMap
   pub here : IsAt p f site ids
   pub agrees : Agrees p f site.context before ids [] frame w.objects
   pub broken : switch_broken p f ids v arms ≡ []
   pub listed : arms_broken p f ids v arms ≡ []
   pub rows : BreakNone (arms_rows p f site.around ids arms)
   pub first : CanPass (emptying f v) before
-  pub leads : DerivesArms site.breaks site.turns (map_after (emptying f v) before) (flow_of_arms p f site.left v arms) behind
+  pub leads : DerivesArms site.breaks site.turns (map_after (emptying f v) before) (flow_of_arms p f site.left v arms) following
 
 module _ (p : Program) (f : Func) (typed : IsTyped p f) (keyed : HasKeys f) (cased : HasCases p f) {v : ℕ} {arms : Arms}
     {frame : Frame} {w : World} (x : SwitchAt p f v arms frame w) where
@@ -383,9 +383,9 @@ module _ (p : Program) (f : Func) (typed : IsTyped p f) (keyed : HasKeys f) (cas
   shape : is_variant (decl_of p the_switch.of.type) ≡ true
   shape = has_case (decl_of p the_switch.of.type) case_fits.case case_fits.decl case_fits.declared
 
-  pub the_arm : ArmAt p f x.site v emptied_map x.behind case_fits.case arms x.ids
+  pub the_arm : ArmAt p f x.site v emptied_map x.following case_fits.case arms x.ids
   the_arm =
-      arm_at p f x.site v emptied_map x.behind case_fits.case arms x.ids x.here x.listed x.rows x.leads
+      arm_at p f x.site v emptied_map x.following case_fits.case arms x.ids x.here x.listed x.rows x.leads
       (arms_cover p f x.ids v the_switch.of.type the_switch.of.args the_switch.ty arms the_switch.known the_switch.of.is shape x.broken case_fits.case
       (slice_get_within (cases_of p the_switch.of.type) case_fits.case case_fits.decl case_fits.declared))
 
@@ -426,8 +426,8 @@ module _ (p : Program) (f : Func) (typed : IsTyped p f) (keyed : HasKeys f) (cas
     outer = λ u e. (vars_widen f the_arm.vs the_arm.scope).vars u (the_arm.here.outer u e);
   }
 
-  -- what is in scope behind the arms is in scope behind the arm's block
-  pub arms_scope : (u : ℕ) → InScope (ids_behind_arms p f arms x.ids) u → InScope (ids_behind_block p f the_arm.body arm_ids) u
+  -- what is in scope after the arms is in scope after the arm's block
+  pub arms_scope : (u : ℕ) → InScope (ids_following_arms p f arms x.ids) u → InScope (ids_following_block p f the_arm.body arm_ids) u
   arms_scope u i =
       (widens_both (vars_widen f the_arm.vs the_arm.scope) (block_widens p f the_arm.body arm_ids)).vars u
       (subst (λ vs. heads.has vs u ≡ true) (arms_vars p f arms x.ids ∙ sym the_arm.vars) i)
@@ -457,9 +457,9 @@ module _ (p : Program) (f : Func) (typed : IsTyped p f) (keyed : HasKeys f) (cas
 module _ (r : Setup) (rest_of : Meaning) (f : Func) (typed : IsTyped r.program f) (keyed : HasKeys f)
     (cased : HasCases r.program f) (v : ℕ) (arms : Arms) (end : ℕ) (safe : AreSafeArms r rest_of f arms) where
   by_arm : {frame : Frame} {w : World} (x : SwitchAt r.program f v arms frame w) →
-      Safe (comes_to r.program f x.site x.behind (ids_behind_arms r.program f arms x.ids)) (does_form r rest_of f (switch v arms end) frame w)
+      Safe (comes_to r.program f x.site x.following (ids_following_arms r.program f arms x.ids)) (does_form r rest_of f (switch v arms end) frame w)
   by_arm {frame} {w} x =
-      let G = comes_to r.program f x.site x.behind (ids_behind_arms r.program f arms x.ids) in
+      let G = comes_to r.program f x.site x.following (ids_following_arms r.program f arms x.ids) in
       let c = switched_case r.program f typed keyed cased x in
       let a = the_arm r.program f typed keyed cased x in
       let done : Arm = record { vs = a.vs; body = a.body } in
@@ -470,12 +470,12 @@ module _ (r : Setup) (rest_of : Meaning) (f : Func) (typed : IsTyped r.program f
       (case_opens r.program f typed keyed cased x G (λ w. does_arm r rest_of f c arms (with_empty_variable f v frame) w)
       (λ w' now. subst (Safe G) (sym (arm_is_done r rest_of f c arms done (with_empty_variable f v frame) w' a.is))
       (arm_fills r.program f typed keyed cased x w' now G (λ frame. does_block r rest_of f a.body frame w')
-      (λ frame' begun. weaker (comes_to r.program f x.site x.behind (ids_behind_block r.program f a.body inner)) G
+      (λ frame' begun. weaker (comes_to r.program f x.site x.following (ids_following_block r.program f a.body inner)) G
       (does_block r rest_of f a.body frame' w')
-      (λ frame w now. agrees_in (ids_behind_arms r.program f arms x.ids) (arms_scope r.program f typed keyed cased x) now)
+      (λ frame w now. agrees_in (ids_following_arms r.program f arms x.ids) (arms_scope r.program f typed keyed cased x) now)
       (λ c frame w jumped. jumped) (λ v kept w left. left)
       (arm_is_safe r rest_of f c.number arms done safe a.is x.site
-      (map_after (arm_rows r.program f v c.number a.vs) (map_after (emptying f v) x.before)) x.behind (owning_toks f a.vs) inner frame' w'
+      (map_after (arm_rows r.program f v c.number a.vs) (map_after (emptying f v) x.before)) x.following (owning_toks f a.vs) inner frame' w'
       (arm_here r.program f typed keyed cased x) a.kinded a.leads begun))))))
 
   pub switch_is_safe : IsSafeForm r rest_of f (switch v arms end)
@@ -485,7 +485,7 @@ module _ (r : Setup) (rest_of : Meaning) (f : Func) (typed : IsTyped r.program f
         site = s;
         ids = ids;
         before = h;
-        behind = k;
+        following = k;
         here = here;
         agrees = agrees;
         broken = both.0;

@@ -1,4 +1,4 @@
--- Rows that break no rule, one list of them behind another one.
+-- Rows that break no rule, one list of them after another one.
 use Rattle.std.proofs.Common.{List, [], ◌∷◌, ◌++◌}
 use Rattle.vlt_core.specs.KindedHeads.{Rules}
 use Rattle.vlt_sound_statements.specs.Kinded.{BreakNone}

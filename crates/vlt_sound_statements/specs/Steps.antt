@@ -14,7 +14,7 @@ use Rattle.vlt_sound_worlds.specs.Scoped.{IsScoped, HasKeys}
 use Rattle.vlt_sound_statements.specs.Makings.{HasCases}
 
 -- Of a statement of one function of a program: where it breaks no rule on names and types and the held map passes its rows, it
--- ends in no fault, and what the map behind the rows says is so behind it.
+-- ends in no fault, and what the map after the rows says is so after it.
 abbrev pub IsStepOf : Setup → Func → Simple → Type 0
 IsStepOf r f s =
     (c : Context) (h : HeldMap) (ids : Ids) (frame : Frame) (w : World) →

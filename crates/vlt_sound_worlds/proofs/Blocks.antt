@@ -80,7 +80,7 @@ absent_is (held S) e = cc
 absent_is (lent S) e = cc
 absent_is full e = cc
 
--- a token that is absent stays so behind the row that wants it away
+-- a token that is absent stays so after the row that wants it away
 gone_same : (t : Tok) (h : HeldMap) → kind_of (h t) ≡ is_absent → row_passed (maps.away_row t) h ≡ h
 gone_same t h e = λ i u. (at u) i
   where

@@ -30,7 +30,7 @@ use Rattle.vlt_sound_worlds.specs.Typed.{IsTyped}
 use Rattle.vlt_sound_worlds.specs.Fine.{IsRead, IsFine}
 use Rattle.vlt_sound_worlds.proofs.Empty.{both_empty, unless_so}
 use Rattle.vlt_sound_worlds.proofs.Touch.{Used, used, Touched, touched_tracked, touched_guarded}
-use Rattle.vlt_sound_worlds.proofs.Rows.{pass_behind, expr_stays}
+use Rattle.vlt_sound_worlds.proofs.Rows.{pass_after, expr_stays}
 
 -- ---- rows one after another that keep the map
 
@@ -362,7 +362,7 @@ module _ {p : Program} {f : Func} (typed : IsTyped p f) (ids : Ids) where
         (expr_broken p f ids a ++ expr_broken p f ids b ++ left_broken (row_of o).takes (type_of_expr p f a)) _ e in
         let s2 = both_empty (expr_broken p f ids a ++ expr_broken p f ids b) _ s3.0 in
         let s1 = both_empty (expr_broken p f ids a) (expr_broken p f ids b) s2.0 in
-        let rows = pass_behind (expr_rows p f a) (expr_rows p f b) h (expr_stays p f a) pass in
+        let rows = pass_after (expr_rows p f a) (expr_rows p f b) h (expr_stays p f a) pass in
         by (value_of p f a frame os) (expr_fine a s1.0 rows.0) (expr_fine b s1.1 rows.1) s2.1 s3.1
       where
         by : (a' : Found Value) → IsFine p (scene c os agrees.heads) frame.keys (type_of_expr p f a) a' →

@@ -23,12 +23,12 @@ use Rattle.vlt_sound_worlds.specs.Roots.{owned_by, cell_of}
 use Rattle.vlt_sound_worlds.specs.Keys.{IsSameObject}
 use Rattle.vlt_sound_worlds.specs.Scene.{Scene, Grows}
 use Rattle.vlt_sound_worlds.specs.Fits.{Names, names_of, Fits}
-use Rattle.vlt_sound_worlds.proofs.Fits.{fits_kept, fits_named, fits_behind}
+use Rattle.vlt_sound_worlds.proofs.Fits.{fits_kept, fits_named, fits_after}
 use Rattle.vlt_sound_worlds.specs.Agrees.{FitCells, ObjectFits, Context, scene, Agrees}
 use Rattle.vlt_sound_worlds.specs.Typed.{IsTyped}
 use Rattle.vlt_sound_worlds.specs.Safe.{Safe, goes_to}
 use Rattle.vlt_sound_worlds.proofs.Empty.{both_empty}
-use Rattle.vlt_sound_worlds.proofs.Rows.{pass_behind, stays_passed, stays_both, expr_stays, touch_stays}
+use Rattle.vlt_sound_worlds.proofs.Rows.{pass_after, stays_passed, stays_both, expr_stays, touch_stays}
 use Rattle.vlt_sound_worlds.proofs.Expressions.{expr_fine, Read, read, not_owning, names_at}
 use Rattle.vlt_sound_worlds.proofs.Plain.{plain_value}
 use Rattle.vlt_sound_worlds.proofs.Safe.{found_safe, fine_safe, so_safe}
@@ -50,24 +50,24 @@ cells_set p s names (x ∷ ds) (b ∷ cells) (suc i) d a fit at new =
     (fit.0, cells_set p s names ds cells i d a fit.1 at new)
 
 -- a declared type owns just where it does with other keys
-pub owns_behind : (keys : List ℕ) (ty : Ty) → is_owning (with_keys keys ty) ≡ is_owning ty
-owns_behind keys int = refl
-owns_behind keys bool = refl
-owns_behind keys (tracked k t args) = refl
-owns_behind keys (owning S t args) = refl
-owns_behind keys (guarded k t args) = refl
-owns_behind keys (variant t args) = refl
-owns_behind keys (owning_variant t args) = refl
+pub owns_after : (keys : List ℕ) (ty : Ty) → is_owning (with_keys keys ty) ≡ is_owning ty
+owns_after keys int = refl
+owns_after keys bool = refl
+owns_after keys (tracked k t args) = refl
+owns_after keys (owning S t args) = refl
+owns_after keys (guarded k t args) = refl
+owns_after keys (variant t args) = refl
+owns_after keys (owning_variant t args) = refl
 
-pub variant_behind : (keys : List ℕ) (ty : Ty) (u : ℕ) (args : List ℕ) → with_keys keys ty ≡ variant u args →
+pub variant_after : (keys : List ℕ) (ty : Ty) (u : ℕ) (args : List ℕ) → with_keys keys ty ≡ variant u args →
     (given : List ℕ) × (ty ≡ variant u given)
-variant_behind keys int u args e = cc
-variant_behind keys bool u args e = cc
-variant_behind keys (tracked k t a) u args e = cc
-variant_behind keys (owning S t a) u args e = cc
-variant_behind keys (guarded k t a) u args e = cc
-variant_behind keys (owning_variant t a) u args e = cc
-variant_behind keys (variant t a) u args e = (a, ap (λ t. variant t a) (ap type e))
+variant_after keys int u args e = cc
+variant_after keys bool u args e = cc
+variant_after keys (tracked k t a) u args e = cc
+variant_after keys (owning S t a) u args e = cc
+variant_after keys (guarded k t a) u args e = cc
+variant_after keys (owning_variant t a) u args e = cc
+variant_after keys (variant t a) u args e = (a, ap (λ t. variant t a) (ap type e))
   where
     type : Ty → ℕ
     type (variant t a) = t
@@ -110,7 +110,7 @@ module _ (r : Setup) (f : Func)
               is_owning_type r.program u ≡ false
           field_plain u args e =
               let g =
-              variant_behind at.args at.field.decl.ty u args e in typed.field_variants at.type i u at.field.decl g.0 at.field.at g.1
+              variant_after at.args at.field.decl.ty u args e in typed.field_variants at.type i u at.field.decl g.0 at.field.at g.1
 
       none_before : objects_in at.value ≡ []
       none_before =
@@ -121,7 +121,7 @@ module _ (r : Setup) (f : Func)
               is_owning_type r.program u ≡ false
           field_plain u args e =
               let g =
-              variant_behind at.args at.field.decl.ty u args e in typed.field_variants at.type i u at.field.decl g.0 at.field.at g.1
+              variant_after at.args at.field.decl.ty u args e in typed.field_variants at.type i u at.field.decl g.0 at.field.at g.1
 
       same : (m : ℕ) → IsSameObject (look os m) (look os' m)
       same m = ⊎_elim
@@ -164,7 +164,7 @@ module _ (r : Setup) (f : Func)
           (fits_named r.program (scene c os agrees.heads) (λ k. frame.keys (stands_for at.args k)) names d.ty a
           (λ k j. ap (λ hs. names_of hs k) at.touch.of.headed ∙
           names_at frame.keys at.args k (subst (λ m. k < m) (sym count) (typed.fields at.type i d at.field.at k j)))
-          (fits_behind r.program (scene c os agrees.heads) frame.keys at.args d.ty a fits)) in
+          (fits_after r.program (scene c os agrees.heads) frame.keys at.args d.ty a fits)) in
           record {
             cells = rw ((same n).type, ap (λ o. o.cells) change.here)
                 (cells_set r.program (scene c os' agrees.heads) names (fields_of r.program (look os n).type) (look os n).cells i d a
@@ -186,7 +186,7 @@ module _ (r : Setup) (f : Func)
       both_empty (expr_broken r.program f ids e ++ touch_broken r.program f ids x i)
       (not_owning_broken rule.WRONG_SWAP (field_type r.program f x i)) s3.0 in
       let s1 = both_empty (expr_broken r.program f ids e) (touch_broken r.program f ids x i) s2.0 in
-      let rows = pass_behind (expr_rows r.program f e) (touch_rows r.program f x i) h (expr_stays r.program f e) pass in
+      let rows = pass_after (expr_rows r.program f e) (touch_rows r.program f x i) h (expr_stays r.program f e) pass in
       let at = read typed ids agrees x i s1.1 rows.1 in
       let ty : Ty = with_keys at.args at.field.decl.ty in
       let plain = not_owning ty rule.WRONG_SWAP (field_type r.program f x i) at.field_is s2.1 in

@@ -147,15 +147,15 @@ map_twice names keys [] = refl
 map_twice names keys (k ∷ ks) = ap (λ ns. names (stands_for keys k) ∷ ns) (map_twice names keys ks)
 
 module _ (p : Program) (s : Scene) (names : Names) (keys : List ℕ) where
-  abbrev behind : Names
-  behind k = names (stands_for keys k)
+  abbrev following : Names
+  following k = names (stands_for keys k)
 
   -- a value fits the type with other keys just where it fits the type under what these stand for
-  pub fits_behind : (ty : Ty) (v : Value) → Fits p s names (with_keys keys ty) v →
+  pub fits_after : (ty : Ty) (v : Value) → Fits p s names (with_keys keys ty) v →
       Fits p s (λ k. names (stands_for keys k)) ty v
-  fits_behind int v f = record { part = f.part; is = f.is; fits = f.fits }
-  fits_behind bool v f = record { part = f.part; is = f.is; fits = f.fits }
-  fits_behind (tracked k t args) v f = record {
+  fits_after int v f = record { part = f.part; is = f.is; fits = f.fits }
+  fits_after bool v f = record { part = f.part; is = f.is; fits = f.fits }
+  fits_after (tracked k t args) v f = record {
     part = f.part;
     is = f.is;
     fits = record {
@@ -165,7 +165,7 @@ module _ (p : Program) (s : Scene) (names : Names) (keys : List ℕ) where
       of = subst (λ hs. IsOf s t hs f.fits.object) (map_twice names keys args) f.fits.of;
     };
   }
-  fits_behind (guarded k t args) v f = record {
+  fits_after (guarded k t args) v f = record {
     part = f.part;
     is = f.is;
     fits = record {
@@ -177,7 +177,7 @@ module _ (p : Program) (s : Scene) (names : Names) (keys : List ℕ) where
       guarded = f.fits.guarded;
     };
   }
-  fits_behind (owning S t args) v f = record {
+  fits_after (owning S t args) v f = record {
     part = f.part;
     is = f.is;
     fits = record {
@@ -187,8 +187,8 @@ module _ (p : Program) (s : Scene) (names : Names) (keys : List ℕ) where
       state = f.fits.state;
     };
   }
-  fits_behind (variant t args) v f = subst (λ hs. IsCase p s (names_of hs) t v) (map_twice names keys args) f
-  fits_behind (owning_variant t args) v f = subst (λ hs. IsCase p s (names_of hs) t v) (map_twice names keys args) f
+  fits_after (variant t args) v f = subst (λ hs. IsCase p s (names_of hs) t v) (map_twice names keys args) f
+  fits_after (owning_variant t args) v f = subst (λ hs. IsCase p s (names_of hs) t v) (map_twice names keys args) f
 
   pub fits_before : (ty : Ty) (v : Value) → Fits p s (λ k. names (stands_for keys k)) ty v →
       Fits p s names (with_keys keys ty) v

@@ -6,7 +6,7 @@ use Rattle.vlt_core.specs.Core.{Ty, int, bool, variant, FieldDecl, Expr, number,
 use Rattle.vlt_core.specs.Lookups.{var_type, is_owning, fields_of}
 use Rattle.vlt_core.specs.Types.{is_owning_type, with_keys}
 use Rattle.vlt_core.specs.KindedOperands.{object_in, field_decl, field_type_in, field_type, unless_owning, given_by, type_of_expr}
-use Rattle.vlt_sound_worlds.proofs.Fields.{variant_behind}
+use Rattle.vlt_sound_worlds.proofs.Fields.{variant_after}
 use Rattle.vlt_sound_worlds.specs.Typed.{IsTyped}
 
 -- a type that is known but for owning ones
@@ -26,7 +26,7 @@ module _ {p : Program} {f : Func} (typed : IsTyped p f) where
           field_type_in (Some o) d ≡ Some (variant u args) → is_owning_type p u ≡ false
       of_decl o None at e = absurd (none-some (variant u args) e)
       of_decl o (Some d) at e =
-          let g = variant_behind o.1 d.ty u args (same_Some (with_keys o.1 d.ty) (variant u args) e) in
+          let g = variant_after o.1 d.ty u args (same_Some (with_keys o.1 d.ty) (variant u args) e) in
           typed.field_variants o.0 i u d g.0 at g.1
 
       by : (o : Option (ℕ × List ℕ)) → field_type_in o (field_decl p o i) ≡ Some (variant u args) →

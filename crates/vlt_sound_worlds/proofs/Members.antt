@@ -1,4 +1,4 @@
--- Lists of numbers, one behind the other.
+-- Lists of numbers, one after the other.
 use Rattle.std.proofs.Common.{◌≡◌, ◌⊎◌, inl, inr, ⊎_elim, ℕ, List, [], ◌∷◌, ◌++◌, refl, subst}
 use Rattle.std.proofs.lemmas.Bool.{cases_eq}
 use Rattle.vlt_sound_worlds.specs.Members.{In, IsOnce}

@@ -44,16 +44,16 @@ pure_facts false ty type e = e
 module _ {p : Program} {f : Func} (typed : IsTyped p f) where
   module _ {c : Context} {h : HeldMap} {ids : Ids} {hand : List Handed} {frame : Frame} (w : World)
       (agrees : Agrees p f c h ids hand frame w.objects) (g : Goal) where
-    -- what has to hold behind an operand
-    abbrev Behind : Operand → Ty → (Value → Frame → World → Step) → Type 0
-    Behind o ty go =
+    -- what has to hold after an operand
+    abbrev Following : Operand → Ty → (Value → Frame → World → Step) → Type 0
+    Following o ty go =
         (a : Value) (frame' : Frame) (w' : World) →
         Agrees p f c (map_after (operand_rows p f o) h) ids (hand ++ given a ty ∷ []) frame' w'.objects →
         Safe g (go a frame' w')
 
     pure_safe : (e : Expr) (ty : Ty) (go : Value → Frame → World → Step) →
         operand_broken p f ids (Some ty) (pure e) ≡ [] → CanPass (operand_rows p f (pure e)) h →
-        Behind (pure e) ty go → Safe g (with_operand p f (pure e) frame w go)
+        Following (pure e) ty go → Safe g (with_operand p f (pure e) frame w go)
     unfolding with_operand
     pure_safe e ty go kinded pass safe =
         let both = both_empty (expr_broken p f ids e) _ kinded in
@@ -72,7 +72,7 @@ module _ {p : Program} {f : Func} (typed : IsTyped p f) where
 
     move_safe : (v : ℕ) (ty : Ty) (go : Value → Frame → World → Step) →
         operand_broken p f ids (Some ty) (move v) ≡ [] → CanPass (operand_rows p f (move v)) h →
-        Behind (move v) ty go → Safe g (with_operand p f (move v) frame w go)
+        Following (move v) ty go → Safe g (with_operand p f (move v) frame w go)
     unfolding with_operand
     move_safe v ty go kinded pass safe =
         let both = both_empty (use_broken f ids v) (move_broken (Some ty) (var_type f v)) kinded in
@@ -89,7 +89,7 @@ module _ {p : Program} {f : Func} (typed : IsTyped p f) where
 
     pack_safe : (x : ℕ) (states : States) (ty : Ty) (go : Value → Frame → World → Step) →
         operand_broken p f ids (Some ty) (pack x states) ≡ [] → CanPass (operand_rows p f (pack x states)) h →
-        Behind (pack x states) ty go → Safe g (with_operand p f (pack x states) frame w go)
+        Following (pack x states) ty go → Safe g (with_operand p f (pack x states) frame w go)
     unfolding with_operand
     pack_safe x states ty go kinded pass safe =
         let both = both_empty (use_broken f ids x) (pack_broken p (Some ty) (var_type f x) states) kinded in
@@ -100,7 +100,7 @@ module _ {p : Program} {f : Func} (typed : IsTyped p f) where
       where
         by : (k t : ℕ) (args : List ℕ) → var_type f x ≡ Some (tracked k t args) → InScope ids x →
             fits_owning ty (owning states t args) ≡ true → CanPass (operand_rows p f (pack x states)) h →
-            Behind (pack x states) ty go →
+            Following (pack x states) ty go →
             Safe g (with_found (object_of f (λ q. states) x frame w.objects) w (λ n. go (one (owned n.number)) frame (with_changed w n.number (with_owner loose))))
         by k t args from scoped wide pass safe =
             let kr : Row = row (a_key k) (wants_in states) becomes_absent in
@@ -127,7 +127,7 @@ module _ {p : Program} {f : Func} (typed : IsTyped p f) where
     -- an operand for a place of a type
     pub operand_safe : (o : Operand) (ty : Ty) (go : Value → Frame → World → Step) →
         operand_broken p f ids (Some ty) o ≡ [] → CanPass (operand_rows p f o) h →
-        Behind o ty go → Safe g (with_operand p f o frame w go)
+        Following o ty go → Safe g (with_operand p f o frame w go)
     operand_safe (pure e) ty go kinded pass safe = pure_safe e ty go kinded pass safe
     operand_safe (move v) ty go kinded pass safe = move_safe v ty go kinded pass safe
     operand_safe (pack x states) ty go kinded pass safe = pack_safe x states ty go kinded pass safe

@@ -51,7 +51,7 @@ module _ (r : Setup) (f : Func)
   abbrev Here : Scene
   Here = scene c w.objects agrees.heads
 
-  -- the map behind an expression is the one before it
+  -- the map after an expression is the one before it
   same_map : (e : Expr) → h ≡ map_after (expr_rows r.program f e) h
   same_map e = sym (stays_passed (expr_rows r.program f e) h (expr_stays r.program f e))
 

@@ -75,6 +75,6 @@ expr_stays p f (field x i) = touch_stays p f x i
 expr_stays p f (unary op a) = expr_stays p f a
 expr_stays p f (binary op a b) = stays_both _ _ (expr_stays p f a) (expr_stays p f b)
 
--- rows behind ones that keep the map are passed from the same map
-pub pass_behind : (xs ys : List Row) (h : HeldMap) → AreStays xs → CanPass (xs ++ ys) h → CanPass xs h × CanPass ys h
-pass_behind xs ys h a c = let both = pass_split xs ys h c in (both.0, subst (CanPass ys) (stays_passed xs h a) both.1)
+-- rows after ones that keep the map are passed from the same map
+pub pass_after : (xs ys : List Row) (h : HeldMap) → AreStays xs → CanPass (xs ++ ys) h → CanPass xs h × CanPass ys h
+pass_after xs ys h a c = let both = pass_split xs ys h c in (both.0, subst (CanPass ys) (stays_passed xs h a) both.1)

@@ -10,7 +10,7 @@ use Rattle.vlt_core.specs.KindedScopes.{Ids, Around, with_binding, with_target, 
 use Rattle.vlt_core.specs.KindedOperands.{misfit, expr_broken, operand_broken, operands_broken}
 use Rattle.vlt_core.specs.KindedStatements.{tracked_type, variant_args, case_broken, payload_types, is_variant_type, is_guarded_type, is_tracked_type, is_owning_object, owning_object, guarded_object, guard_key, keys_differ, wanted_of, objects_apart, tracked_broken, struct_broken, droppable_broken, owning_field_types, opened_types, opened_broken, set_broken, made_broken, made_types, simple_broken, ids_after}
 use Rattle.vlt_core.specs.KindedCalls.{caller_type, keys_fit, clause_keys_broken, arguments_broken, caller_keys_broken, result_broken_by, call_target_broken, call_broken, target_alone_broken, is_fresh_call, with_call_target}
-use Rattle.vlt_core.specs.KindedBodies.{focus_broken, with_focus, row_broken, ids_behind, ids_behind_block, ids_behind_arms, with_vars}
+use Rattle.vlt_core.specs.KindedBodies.{focus_broken, with_focus, row_broken, ids_following, ids_following_block, ids_following_arms, with_vars}
 use Rattle.vlt_sound_worlds.specs.Agrees.{Context}
 use Rattle.vlt_sound_worlds.proofs.Empty.{both_empty}
 use Rattle.vlt_sound_worlds.specs.Scoped.{IsScoped, HasKeys}
@@ -110,20 +110,20 @@ module _ (p : Program) {f : Func} {c : Context} (keyed : HasKeys f) where
       caller_keys_broken f ids g (enumerate_from 0 keys))
       (call_target_broken f ids g keys target) b).1 s
 
--- what is known of a scope is known behind blocks
+-- what is known of a scope is known after blocks
 module _ {f : Func} {c : Context} (p : Program) where
-  pub block_scoped : (b : core.Block) {ids : Ids} → IsScoped f c ids → IsScoped f c (ids_behind_block p f b ids)
+  pub block_scoped : (b : core.Block) {ids : Ids} → IsScoped f c ids → IsScoped f c (ids_following_block p f b ids)
   block_scoped (core.block ss bound end) {ids} s =
       scoped_with refl refl (block_widens p f (core.block ss bound end) ids) s
 
-  pub arms_scoped : (arms : Arms) {ids : Ids} → IsScoped f c ids → IsScoped f c (ids_behind_arms p f arms ids)
+  pub arms_scoped : (arms : Arms) {ids : Ids} → IsScoped f c ids → IsScoped f c (ids_following_arms p f arms ids)
   arms_scoped no_arms s = s
   arms_scoped (arm k vs b rest) {ids} s =
       arms_scoped rest
       (left_scoped (widens_both (vars_widen f vs ids) (block_widens p f b (with_vars f vs ids))) s)
 
   pub form_scoped : HasKeys f → (around : Around) (s : Form) {ids : Ids} → row_broken p f around ids s ≡ [] →
-      IsScoped f c ids → IsScoped f c (ids_behind p f s ids)
+      IsScoped f c ids → IsScoped f c (ids_following p f s ids)
   form_scoped keyed around (simple s) b i = simple_scoped p keyed s b i
   form_scoped keyed around (call g target keys args) b i = call_scoped p keyed (slice_get p.fns g) target keys args b i
   form_scoped keyed around (choose e a b) broken i = block_scoped b (block_scoped a i)

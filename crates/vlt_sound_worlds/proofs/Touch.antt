@@ -15,7 +15,7 @@ use Rattle.vlt_meaning.specs.World.{Object, Frame, one, reference, adopted_by, g
 use Rattle.vlt_meaning.specs.World as world
 use Rattle.vlt_meaning.specs.Found.{Named, ◌>>=◌, if_so}
 use Rattle.vlt_meaning.specs.Objects.{in_states}
-use Rattle.vlt_meaning.specs.Values.{held_object, tracked_object, guarded_object, object_behind, touchable}
+use Rattle.vlt_meaning.specs.Values.{held_object, tracked_object, guarded_object, object_after, touchable}
 use Rattle.vlt_sound_worlds.specs.Look.{look, IsLive}
 use Rattle.vlt_sound_worlds.proofs.Look.{look_at, live_at}
 use Rattle.vlt_sound_worlds.proofs.KeysLaws.{held_one}
@@ -184,7 +184,7 @@ module _ {p : Program} {f : Func} {c : Context} {h : HeldMap} {ids : Ids} {hand 
         of = tr.of;
         live = λ e. let q = sym e ∙ tr.owned in cc;
         found =
-            ap (λ q. object_behind q (guarded_of f x) x (λ r. permitted_in p r.type i) frame os) (ap tracked_in ty) ∙
+            ap (λ q. object_after q (guarded_of f x) x (λ r. permitted_in p r.type i) frame os) (ap tracked_in ty) ∙
             (ap (λ m. m >>= in_states (permitted_in p t i)) (tracked_found r x frame os tr.number (look os tr.number) tr.var tr.named
             (look_at os tr.number tr.of.within) tr.owned) ∙
             ap (λ b. if_so b wrong_state (named tr.number (look os tr.number)))
@@ -211,8 +211,8 @@ module _ {p : Program} {f : Func} {c : Context} {h : HeldMap} {ids : Ids} {hand 
         of = gr.of;
         live = live;
         found =
-            ap (λ q. object_behind q (guarded_of f x) x (λ r. permitted_in p r.type i) frame os) (ap tracked_in ty) ∙
-            (ap (λ q. object_behind None q x (λ r. permitted_in p r.type i) frame os) (ap guarded_in ty) ∙
+            ap (λ q. object_after q (guarded_of f x) x (λ r. permitted_in p r.type i) frame os) (ap tracked_in ty) ∙
+            (ap (λ q. object_after None q x (λ r. permitted_in p r.type i) frame os) (ap guarded_in ty) ∙
             (ap (λ m. m >>= in_states (permitted_in p t i)) (guarded_found r x frame os gr.guard (look os gr.guard) gr.number (look os gr.number) gr.named
             (live_at os gr.guard (λ e. let q = sym e ∙ gr.held in cc)) gr.held gr.var
             (look_at os gr.number gr.of.within) gr.adopted) ∙

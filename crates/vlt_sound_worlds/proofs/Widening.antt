@@ -5,7 +5,7 @@ use Rattle.vlt_core.specs.KindedHeads.{has}
 use Rattle.vlt_core.specs.KindedScopes.{Ids, left_behind, at_block_start, with_key, with_var, with_binding, with_target, own_key}
 use Rattle.vlt_core.specs.KindedStatements.{with_bindings, ids_after}
 use Rattle.vlt_core.specs.KindedCalls.{with_call_target, is_fresh_call}
-use Rattle.vlt_core.specs.KindedBodies.{with_vars, with_focus, ids_behind, ids_behind_block, ids_behind_stmts, ids_behind_arms}
+use Rattle.vlt_core.specs.KindedBodies.{with_vars, with_focus, ids_following, ids_following_block, ids_following_stmts, ids_following_arms}
 use Rattle.vlt_sound_worlds.specs.Scoped.{Widens}
 
 -- a list with one more number in front
@@ -103,7 +103,7 @@ module _ (f : Func) where
       by true = binding_widens (own_key f v) v ids
       by false = target_widens v ids
 
--- what was bound in a block stays bound behind it, and the scope is the one before
+-- what was bound in a block stays bound after it, and the scope is the one before
 pub left_widens : (before : Ids) {last : Ids} → Widens before last → Widens before (left_behind before last)
 left_widens before w =
     record { vars = λ v i. i; keys = λ k i. i; vars_ever = w.vars_ever; keys_ever = w.keys_ever }
@@ -113,10 +113,10 @@ entered_widens ids w = record { vars = w.vars; keys = w.keys; vars_ever = w.vars
 
 module _ (p : Program) (f : Func) where
   mutual
-    pub form_widens : (s : Form) (ids : Ids) → Widens ids (ids_behind p f s ids)
+    pub form_widens : (s : Form) (ids : Ids) → Widens ids (ids_following p f s ids)
     form_widens (simple s) ids = simple_widens f s ids
     form_widens (call g target keys args) ids = call_widens f (slice_get p.fns g) target ids
-    form_widens (choose e a b) ids = widens_both (block_widens a ids) (block_widens b (ids_behind_block p f a ids))
+    form_widens (choose e a b) ids = widens_both (block_widens a ids) (block_widens b (ids_following_block p f a ids))
     form_widens (loop e b) ids = block_widens b ids
     form_widens (switch v arms end) ids = arms_widen arms ids
     form_widens (focus y z b) ids =
@@ -125,16 +125,16 @@ module _ (p : Program) (f : Func) where
     form_widens (return value) ids = widens_self ids
     form_widens (jump continues) ids = widens_self ids
 
-    pub block_widens : (b : Block) (ids : Ids) → Widens ids (ids_behind_block p f b ids)
+    pub block_widens : (b : Block) (ids : Ids) → Widens ids (ids_following_block p f b ids)
     block_widens (block ss bound end) ids = left_widens ids (entered_widens ids (stmts_widen ss (at_block_start ids)))
 
-    pub stmts_widen : (ss : Stmts) (ids : Ids) → Widens ids (ids_behind_stmts p f ss ids)
+    pub stmts_widen : (ss : Stmts) (ids : Ids) → Widens ids (ids_following_stmts p f ss ids)
     stmts_widen done ids = widens_self ids
-    stmts_widen (next at s rest) ids = widens_both (form_widens s ids) (stmts_widen rest (ids_behind p f s ids))
+    stmts_widen (next at s rest) ids = widens_both (form_widens s ids) (stmts_widen rest (ids_following p f s ids))
 
-    pub arms_widen : (arms : Arms) (ids : Ids) → Widens ids (ids_behind_arms p f arms ids)
+    pub arms_widen : (arms : Arms) (ids : Ids) → Widens ids (ids_following_arms p f arms ids)
     arms_widen no_arms ids = widens_self ids
     arms_widen (arm c vs b rest) ids =
         widens_both
         (left_widens ids (widens_both (vars_widen f vs ids) (block_widens b (with_vars f vs ids))))
-        (arms_widen rest (left_behind ids (ids_behind_block p f b (with_vars f vs ids))))
+        (arms_widen rest (left_behind ids (ids_following_block p f b (with_vars f vs ids))))

@@ -1,4 +1,4 @@
--- What is known behind operands.
+-- What is known after operands.
 use Rattle.std.specs.Prelude.{◌≡◌, List, [], ◌∷◌, ◌++◌, length, Some}
 use Rattle.vlt_core.specs.Core.{Ty, Operand, Func, Program}
 use Rattle.vlt_core.specs.Maps.{HeldMap, CanPass, map_after}
@@ -17,8 +17,8 @@ abbrev pub handed_values : List Ty → List Value → List Handed
 handed_values (t ∷ ts) (a ∷ rest) = record { value = a; type = t } ∷ handed_values ts rest
 handed_values _ _ = []
 
--- Where an operand breaks no rule and the held map passes its rows, it ends in no fault, and behind it a value that fits the
--- place's type is handed over, with what was handed over before. `go` is what comes behind it.
+-- Where an operand breaks no rule and the held map passes its rows, it ends in no fault, and after it a value that fits the
+-- place's type is handed over, with what was handed over before. `go` is what comes after it.
 abbrev pub IsHandedOver : Operand → Ty → Type 0
 IsHandedOver o ty =
     (p : Program) (f : Func) (c : Context) (h : HeldMap) (ids : Ids) (hand : List Handed) (frame : Frame) (w : World)

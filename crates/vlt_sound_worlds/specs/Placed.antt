@@ -26,7 +26,7 @@ pub record OwnsThese (xs : List ℕ) (q : Owner) (old new : ℕ → Owner) : Typ
   pub those : (n : ℕ) → In n xs → new n ≡ q
   pub others : (n : ℕ) → (In n xs → ⊥) → new n ≡ old n
 
--- the first objects of one place go behind those of another one
+-- the first objects of one place go after those of another one
 pub record Shifts {A : Type 0} (from to : A) (xs ys zs : List ℕ) (old new : A → List ℕ) : Type 0 where
   pub apart : from ≡ to → ⊥
   pub was : old from ≡ xs ++ ys
@@ -35,7 +35,7 @@ pub record Shifts {A : Type 0} (from to : A) (xs ys zs : List ℕ) (old new : A 
   pub now : new to ≡ zs ++ xs
   pub others : (P : A) → (P ≡ from → ⊥) → (P ≡ to → ⊥) → new P ≡ old P
 
--- objects come behind those of a place, from no place
+-- objects come after those of a place, from no place
 pub record Takes {A : Type 0} (to : A) (xs zs : List ℕ) (old new : A → List ℕ) : Type 0 where
   pub before : old to ≡ zs
   pub now : new to ≡ zs ++ xs

@@ -12,8 +12,8 @@ use Rattle.vlt_sound_worlds.specs.Typed.{IsTyped}
 use Rattle.vlt_sound_worlds.specs.Safe.{Safe, goes_to}
 use Rattle.vlt_sound_worlds.specs.Scoped.{IsScoped, HasKeys}
 
--- Where it breaks no rule on names and types and the held map passes its rows, it ends in no fault, and what the map behind
--- the rows says is so behind it.
+-- Where it breaks no rule on names and types and the held map passes its rows, it ends in no fault, and what the map after
+-- the rows says is so after it.
 abbrev pub IsScopedStep : Simple → Type 0
 IsScopedStep s =
     (r : Setup) (f : Func) (c : Context) (h : HeldMap) (ids : Ids) (frame : Frame) (w : World) →

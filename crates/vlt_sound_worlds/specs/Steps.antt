@@ -11,8 +11,8 @@ use Rattle.vlt_sound_worlds.specs.Agrees.{Context, Agrees}
 use Rattle.vlt_sound_worlds.specs.Typed.{IsTyped}
 use Rattle.vlt_sound_worlds.specs.Safe.{Safe, goes_to}
 
--- Where it breaks no rule on names and types and the held map passes its rows, it ends in no fault, and what the map behind
--- the rows says is so behind it.
+-- Where it breaks no rule on names and types and the held map passes its rows, it ends in no fault, and what the map after
+-- the rows says is so after it.
 abbrev pub IsSafeStep : Simple → Type 0
 IsSafeStep s =
     (r : Setup) (f : Func) (c : Context) (h : HeldMap) (ids : Ids) (frame : Frame) (w : World) →

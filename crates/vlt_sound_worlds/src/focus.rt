@@ -12,7 +12,7 @@ ghost use Rattle.vlt_sound_worlds.specs.Fits.{Names, Fits};
 pub fn values_stay_fit()
     ensures kept { (p : Program) (s t : Scene) (names : Names) (ty : Ty) (v : Value) →
         Grows s t → SameStates s t (objects_in v) → Fits p s names ty v → Fits p t names ty v }
-    ensures behind { (p : Program) (s : Scene) (names : Names) (keys : List ℕ) (ty : Ty)
+    ensures following { (p : Program) (s : Scene) (names : Names) (keys : List ℕ) (ty : Ty)
         (v : Value) → Fits p s names (with_keys keys ty) v →
         Fits p s (λ k. names (stands_for keys k)) ty v }
     ensures before { (p : Program) (s : Scene) (names : Names) (keys : List ℕ) (ty : Ty)

@@ -5,7 +5,7 @@ ghost use Rattle.vlt_core.specs.Core.{Ty, Simple, Form, Func, Program};
 ghost use Rattle.vlt_core.specs.KindedHeads.{has, head_keys};
 ghost use Rattle.vlt_core.specs.KindedScopes.{Ids, Around, fresh_broken};
 ghost use Rattle.vlt_core.specs.KindedStatements.{simple_broken, ids_after};
-ghost use Rattle.vlt_core.specs.KindedBodies.{focus_broken, with_focus, arm_vars_broken, with_vars, row_broken, ids_behind, first_ids};
+ghost use Rattle.vlt_core.specs.KindedBodies.{focus_broken, with_focus, arm_vars_broken, with_vars, row_broken, ids_following, first_ids};
 ghost use Rattle.vlt_sound_worlds.specs.Agrees.{Handed, Context};
 ghost use Rattle.vlt_sound_worlds.specs.Scopes.{IsFresh};
 ghost use Rattle.vlt_sound_worlds.specs.Steps.{IsSafeStep};
@@ -15,7 +15,7 @@ ghost use Rattle.vlt_sound_worlds.specs.ScopeSteps.{IsScopedStep};
 /// A statement only adds to a scope, and to what was bound.
 pub fn scopes_only_widen()
     ensures { (p : Program) (f : Func) (s : Form) (ids : Ids) →
-        Widens ids (ids_behind p f s ids) }
+        Widens ids (ids_following p f s ids) }
 {}
 
 /// What is known of a scope holds where a body begins, and each binding that breaks no rule keeps it.
@@ -29,7 +29,7 @@ pub fn scopes_are_known()
         IsScoped f c (ids_after f s ids) }
     ensures form { (p : Program) (f : Func) (c : Context) (ids : Ids) (around : Around)
         (s : Form) → HasKeys f → row_broken p f around ids s ≡ [] → IsScoped f c ids →
-        IsScoped f c (ids_behind p f s ids) }
+        IsScoped f c (ids_following p f s ids) }
     ensures arm { (f : Func) (c : Context) (ids : Ids) (wanted : List Ty) (vs : List ℕ) →
         HasKeys f → arm_vars_broken f ids wanted vs ≡ [] → IsScoped f c ids →
         IsScoped f c (with_vars f vs ids) }

@@ -72,7 +72,7 @@ module _ {Event : Type 0} (line : Event → List ℕ) where
     pub cut_since : (u w v : List Event) (before after : Outside) (stop : Stop) → u ≡ w → WasCut sink_fault line u v before after stop → WasCut sink_fault line w v before after stop
     cut_since u w v before after stop same h = record { fault = h.fault; events = h.events; added = h.added ∙ ap (λ l. l ++ h.events) same; grew = h.grew; rose = h.rose; counted = h.counted }
 
-    -- a part goes out behind what went out, and more events would have come
+    -- a part goes out after what went out, and more events would have come
     pub cut_both : (u v w z more : List Event) (a b c : Outside) (stop : Stop) → Wrote line u v a b → WasCut sink_fault line v w b c stop → z ≡ w ++ more → WasCut sink_fault line u z a c stop
     cut_both u v w z more a b c stop x y are =
         let part = y.grew in

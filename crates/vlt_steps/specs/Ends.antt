@@ -19,7 +19,7 @@ EndsRun IsTooWide Stops before after (Stopped stop) = (IsTooWide → ⊥) × Sto
 EndsRun IsTooWide Stops before after Memory = IsUntouched before after
 EndsRun IsTooWide Stops before after _ = ⊥
 
--- a bad line is told, or memory was wanting
+-- a bad line is told, or memory ran out
 abbrev pub IsRefusal : {Stop : Type 0} → (refusal : RunEnd Stop) → (before after : Outside) → RunEnd Stop → Type 0
 IsRefusal refusal before after end = ((end ≡ refusal) ⊎ (end ≡ Memory)) × IsUntouched before after
 

@@ -16,7 +16,7 @@ pub enum RunEnd<S> {
     TooWide,
     /// The machine stopped so.
     Stopped(S),
-    /// Memory was wanting before the run began.
+    /// Memory ran out before the run began.
     Memory,
 }
 

@@ -74,7 +74,7 @@ pub fn begin(line: &mut Vec<u8>, name: &[u8])
     put_all(line, name);
 }
 
-/// A number behind a blank.
+/// A number after a blank.
 pub fn tell_number(line: &mut Vec<u8>, number: i64)
     requires { length line.old.items + 42 ≤ vec_capacity line.old }
     ensures items { line.new.items ≡ line.old.items ++ (codes " " ++ signed_decimal number) }
@@ -86,7 +86,7 @@ pub fn tell_number(line: &mut Vec<u8>, number: i64)
     put_all(line, digits.format(number).as_bytes());
 }
 
-/// The number of an object, from 1, behind a blank and `#`.
+/// The number of an object, from 1, after a blank and `#`.
 pub fn tell_object(line: &mut Vec<u8>, object: u64)
     requires { length line.old.items + 42 ≤ vec_capacity line.old }
     ensures items { line.new.items ≡

@@ -113,7 +113,7 @@ abbrev pub IsSomeArm : Arms → Type 0
 IsSomeArm s.no_arms = ⊥
 IsSomeArm (s.arm c vs b at more) = Unit {0}
 
--- `room` is how many more blocks may stand in one another here. The `if` behind an `else` takes one like a block.
+-- `room` is how many more blocks may stand in one another here. The `if` after an `else` takes one like a block.
 abbrev mutual
   pub IsStmt : Bounds → ℕ → Stmt → Type 0
   IsStmt b room (s.declare t x v at) = IsTy t × IsRight b v

@@ -4,7 +4,7 @@ use Rattle.vlt_lexer.specs.declared.token.Mark.{Mark}
 use Rattle.vlt_lexer.specs.declared.token.Mark.TheVariants.{Comma}
 use Rattle.vlt_syntax.specs.Tokens.{Token, sign}
 
--- one thing behind another
+-- one thing after another
 abbrev pub each_then : {X : Type 0} → (X → List Token → List Token) → List X → List Token → List Token
 each_then spell [] rest = rest
 each_then spell (x ∷ xs) rest = spell x (each_then spell xs rest)
@@ -19,7 +19,7 @@ abbrev pub listed_then : {X : Type 0} → (X → List Token → List Token) → 
 listed_then spell closing [] rest = sign closing ∷ rest
 listed_then spell closing (x ∷ xs) rest = spell x (further_then spell closing xs rest)
 
--- such a list behind its opening sign, or nothing where there is no thing
+-- such a list after its opening sign, or nothing where there is no thing
 abbrev pub enclosed_then : {X : Type 0} → (X → List Token → List Token) → Mark → Mark → List X → List Token → List Token
 enclosed_then spell opening closing [] rest = rest
 enclosed_then spell opening closing (x ∷ xs) rest = sign opening ∷ listed_then spell closing (x ∷ xs) rest

@@ -1,4 +1,4 @@
--- Where the parts of a tree stand in its text. A thing's span goes from the first byte of its first token to behind its last.
+-- Where the parts of a tree stand in its text. A thing's span goes from the first byte of its first token to after its last.
 -- Each definition sets the spans of one thing anew, in the order of its tokens, whatever they were before.
 use Rattle.std.specs.Prelude.{◌≡◌, ◌+◌, ◌-◌, ℕ, List, [], ◌∷◌, map, slice_index_or, Option, Some, None}
 use Rattle.vlt_base.specs.declared.places.Span.{Span}
@@ -10,7 +10,7 @@ use Rattle.vlt_syntax.specs.Tree.{Name, States, KeyStates, Named, Ty, Expr, Buil
 abbrev pub Spans : Type 0
 Spans = ℕ → ℕ → Span
 
--- A thing whose first token has this number, with its spans set, and the number of the token behind it.
+-- A thing whose first token has this number, with its spans set, and the number of the token after it.
 abbrev pub Placing : Type 0 → Type 0
 Placing X = Spans → ℕ → X × ℕ
 
@@ -18,12 +18,12 @@ Placing X = Spans → ℕ → X × ℕ
 abbrev pub without_tokens : {X : Type 0} → X → Placing X
 without_tokens x spans i = (x, i)
 
--- so many tokens behind it
+-- so many tokens after it
 infixl 10 ◌◂◌
 abbrev pub ◌◂◌ : {X : Type 0} → Placing X → ℕ → Placing X
 (p ◂ n) spans i = let x = p spans i in (x.0, x.1 + n)
 
--- one thing behind another, put into it
+-- one thing after another, put into it
 infixl 10 ◌⊛◌
 abbrev pub ◌⊛◌ : {X Y : Type 0} → Placing (X → Y) → Placing X → Placing Y
 (f ⊛ p) spans i = let g = f spans i in let x = p spans g.1 in (g.0 x.0, x.1)
@@ -53,7 +53,7 @@ abbrev pub enclosed_at : {X : Type 0} → (X → Placing X) → List X → Placi
 enclosed_at place [] = without_tokens []
 enclosed_at place (x ∷ xs) = without_tokens cons ◂ 1 ⊛ place x ⊛ further_at place xs
 
--- behind a sign, or not there
+-- after a sign, or not there
 abbrev pub marked_at : {X : Type 0} → (X → Placing X) → Option X → Placing (Option X)
 marked_at place None = without_tokens None
 marked_at place (Some x) = without_tokens (λ y. Some y) ◂ 1 ⊛ place x
@@ -221,7 +221,7 @@ tree_at t = without_tokens (λ decls. record { decls = decls }) ⊛ each_at decl
 
 -- ---- texts
 
--- from the first byte of a token up to behind the one before another
+-- from the first byte of a token up to after the one before another
 abbrev pub span_in : List Lexeme → Spans
 span_in ls i j = record {
   from = slice_index_or (map (λ l. l.from) ls) i 0;

@@ -42,7 +42,7 @@ IsUnexpectedAt ts i = IsEndOf any_size ts i
 abbrev pub IsOverLimitAt : (limit : ℕ) → List Token → ℕ → Type 0
 IsOverLimitAt limit ts i = IsEndOf (within limit) ts i × Continues any_size (take (suc i) ts)
 
--- some tree goes on behind the tokens, but they are none
+-- some tree goes on after the tokens, but they are none
 abbrev pub IsCutShort : List Token → Type 0
 IsCutShort ts = Continues any_size ts × ((t : Tree) → IsOneOf any_size t → spelling t ≡ ts → ⊥)
 

@@ -16,7 +16,7 @@ name_then n rest = name n.text ∷ rest
 abbrev pub case_name_then : Name → List Token → List Token
 case_name_then n rest = tick n.text ∷ rest
 
--- the sign and a name behind it, or nothing
+-- the sign and a name after it, or nothing
 abbrev pub marked_name_then : Mark → Option Name → List Token → List Token
 marked_name_then m None rest = rest
 marked_name_then m (Some n) rest = sign m ∷ name_then n rest

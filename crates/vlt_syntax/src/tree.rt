@@ -1,6 +1,6 @@
 //! The tree: one type for each thing of the grammar, one variant for each form of it.
 //!
-//! A span goes from a thing's first byte to behind its last.
+//! A span goes from a thing's first byte to after its last.
 
 use crate::name_text::NameText;
 use vlt_base::{Boxed, Items, Span};
@@ -272,7 +272,7 @@ pub enum Stmt {
     },
 }
 
-/// `if (c) { }`, with what stands behind `else`.
+/// `if (c) { }`, with what stands after `else`.
 #[cycle(statements)]
 #[derive(Drop)]
 pub struct If {

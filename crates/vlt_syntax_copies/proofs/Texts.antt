@@ -1,4 +1,4 @@
--- No place of a text's tree lies behind the text.
+-- No place of a text's tree lies after the text.
 use Rattle.std.proofs.Common.{◌≡◌, ◌-◌, ◌≤◌, ℕ, zero, suc, List, [], ◌∷◌, map, length, min, sym, ap, ap₂, ◌∙◌, arith}
 use Rattle.std.specs.Prelude.{slice_index_or}
 use Rattle.std.proofs.Math.Nat.{min-eq_left}

@@ -1,4 +1,4 @@
--- Trees without places behind an end: cut there, all places stay as they are.
+-- Trees without places after an end: cut there, all places stay as they are.
 use Rattle.std.specs.Prelude.{◌≡◌, ℕ, min, map}
 use Rattle.vlt_base.specs.declared.places.Span.{Span}
 use Rattle.vlt_syntax.specs.Tree.{Tree}

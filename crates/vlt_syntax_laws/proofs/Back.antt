@@ -15,7 +15,7 @@ use Rattle.vlt_syntax.specs.Lists.{Each, each_then, further_then, listed_then, e
 use Rattle.vlt_base.specs.declared.places.Span.{Span}
 use Rattle.vlt_syntax.specs.Spelling.{name_then, case_name_then, marked_name_then, states_then, at_states_then, key_states_then, named_then, ty_then, init_then, owner_then, right_then, returned_then, stmt_then, block_then, else_then, stmts_then, arms_then, further_states_then, header_key_then, field_then, release_then, case_then, entry_then, result_type_then, parameter_then, clause_then, head_then, decl_then, expr_then, sign_of, operator_of}
 use Rattle.vlt_syntax.specs.Grammar.{BindsFrom, depth, level, IsExpr, IsTy, IsStates, IsKeyStates, IsInit, IsRight, IsReturned, IsStmt, IsBlock, IsElse, AreStmts, AreArms, IsField, IsCase, IsEntry, IsResultType, IsParameter, IsHead, IsDecl, Bounds}
-use Rattle.vlt_automaton.specs.Automaton.{Pending, level_from, right_of, prefixed, Symbol, Thing, operand, operations, behind_name, close_group, end_expr, behind_operand, behind_variable, whole_depth, Left, a_name, a_param, a_ty, a_key, a_case, a_parameter, an_entry, an_expr, an_init, a_result_type, a_simple, a_stmt, a_decl, tick, sign, keyword, thing, further, listed, enclosed, marked_name, states, at_states, named, behind_tracked, behind_type_name, owner, right, behind_right_name, returned, block, stmts, behind_stmt_name, otherwise, behind_else, arm, arms, entry_states, behind_entry_at, arrow_states, clause, head, further_states, fields, behind_fields, decls, Reaction, take, exceed, climb, climb_by, if_deeper, start_operand, react_operations}
+use Rattle.vlt_automaton.specs.Automaton.{Pending, level_from, right_of, prefixed, Symbol, Thing, operand, operations, following_name, close_group, end_expr, after_operand, after_variable, whole_depth, Left, a_name, a_param, a_ty, a_key, a_case, a_parameter, an_entry, an_expr, an_init, a_result_type, a_simple, a_stmt, a_decl, tick, sign, keyword, thing, further, listed, enclosed, marked_name, states, at_states, named, after_tracked, after_type_name, owner, right, after_right_name, returned, block, stmts, after_stmt_name, otherwise, following_else, arm, arms, entry_states, after_entry_at, arrow_states, clause, head, further_states, fields, after_fields, decls, Reaction, take, exceed, climb, climb_by, if_deeper, start_operand, react_operations}
 use Rattle.vlt_syntax_laws.proofs.Exprs.{depth_some, binary_low, unary_high}
 use Rattle.vlt_syntax_laws.proofs.Wider.{wider}
 
@@ -45,19 +45,19 @@ Fits most m d (level_at least room ∷ gs) = (least ≤ m) × (d ≤ room) × Fi
 Fits most m d (right_at least room o a ∷ gs) = (m ≡ suc (level o)) × ((row_of o).arity ≡ 2) × (least ≤ level o) × BindsFrom (level o) a × (depth a < room) × (d < room) × Fits most least room gs
 Fits most m d (prefix_at o ∷ gs) = (m ≡ 11) × ((row_of o).arity ≡ 1) × Fits most 11 (suc d) gs
 
--- what comes behind the expression, which has this depth
+-- what comes after the expression, which has this depth
 abbrev pub Rest : Type 1
 Rest = ℕ → List Token → Type 0
 
 abbrev pub Completed : ℕ → List Filled → Rest → List Token → Type 0
 Completed most gs K ts = (e : Expr) × (rest : List Token) × BindsFrom 2 e × (depth e ≤ most) × (front gs ts ≡ expr_then e rest) × K (depth e) rest
 
--- what comes where an operand is wanted, and behind one of this depth
+-- what comes where an operand is wanted, and after one of this depth
 abbrev pub Wanted : ℕ → List Pending → Rest → List Token → Type 0
 Wanted room fs K ts = (most : ℕ) (gs : List Filled) → frames gs ≡ fs → 1 ≤ room → Fits most 11 room gs → Completed most gs K ts
 
-abbrev pub Behind : ℕ → List Pending → Rest → List Token → Type 0
-Behind d fs K ts = (most : ℕ) (gs : List Filled) (e : Expr) → frames gs ≡ fs → depth e ≡ d → BindsFrom 11 e → Fits most 11 d gs → Completed most gs K (expr_then e ts)
+abbrev pub Following : ℕ → List Pending → Rest → List Token → Type 0
+Following d fs K ts = (most : ℕ) (gs : List Filled) (e : Expr) → frames gs ≡ fs → depth e ≡ d → BindsFrom 11 e → Fits most 11 d gs → Completed most gs K (expr_then e ts)
 
 pub raised : (m n : ℕ) (e : Expr) → n ≤ m → BindsFrom m e → BindsFrom n e
 raised m n (s.number z at) le h = tt
@@ -96,8 +96,8 @@ IsNamed (s.field x f) = ⊥
 IsNamed (s.group e at) = ⊥
 IsNamed (s.binary o l r at) = ⊥
 
-abbrev pub BehindName : ℕ → List Pending → Rest → List Token → Type 0
-BehindName d fs K ts = (most : ℕ) (gs : List Filled) (e : Expr) → IsNamed e → frames gs ≡ fs → depth e ≡ d → BindsFrom 11 e → Fits most 11 d gs → Completed most gs K (expr_then e ts)
+abbrev pub AfterName : ℕ → List Pending → Rest → List Token → Type 0
+AfterName d fs K ts = (most : ℕ) (gs : List Filled) (e : Expr) → IsNamed e → frames gs ≡ fs → depth e ≡ d → BindsFrom 11 e → Fits most 11 d gs → Completed most gs K (expr_then e ts)
 
 -- what things are, how they are spelled, and which are of the language
 abbrev pub ThingType : Thing → Type 0
@@ -153,9 +153,9 @@ RoomFor (Some l) n = n ≤ l.more
 abbrev pub Spelled : (X : Type 0) → (X → Type 0) → (X → List Token → List Token) → Rest → List Token → Type 0
 Spelled X P spell K ts = (x : X) × (rest : List Token) × P x × (ts ≡ spell x rest) × K 0 rest
 
--- behind this token of it
-abbrev pub SpelledBehind : Token → (X : Type 0) → (X → Type 0) → (X → List Token → List Token) → Rest → List Token → Type 0
-SpelledBehind before X P spell K ts = (x : X) × (rest : List Token) × P x × (before ∷ ts ≡ spell x rest) × K 0 rest
+-- after this token of it
+abbrev pub SpelledAfter : Token → (X : Type 0) → (X → Type 0) → (X → List Token → List Token) → Rest → List Token → Type 0
+SpelledAfter before X P spell K ts = (x : X) × (rest : List Token) × P x × (before ∷ ts ≡ spell x rest) × K 0 rest
 
 abbrev pub AnyName : Name → Type 0
 AnyName n = Unit {0}
@@ -178,32 +178,32 @@ Part extra d (marked_name m) K ts = Spelled (Option Name) AnyOption (marked_name
 Part extra d states K ts = Spelled States IsStates states_then K ts
 Part extra d at_states K ts = Spelled (Option States) (λ o. IfSome o IsStates) at_states_then K ts
 Part extra d named K ts = Spelled Named (λ n. Unit {0}) named_then K ts
-Part extra d behind_tracked K ts = SpelledBehind (t.keyword word.Tracked) Ty IsTy ty_then K ts
-Part extra d behind_type_name K ts = (n : List ℕ) → SpelledBehind (t.name n) Ty IsTy ty_then K ts
+Part extra d after_tracked K ts = SpelledAfter (t.keyword word.Tracked) Ty IsTy ty_then K ts
+Part extra d after_type_name K ts = (n : List ℕ) → SpelledAfter (t.name n) Ty IsTy ty_then K ts
 Part extra d (operand room fs) K ts = Wanted room fs K ts
-Part extra d (operations n fs) K ts = Behind n fs K ts
-Part extra d (behind_name n fs) K ts = BehindName n fs K ts
-Part extra d (close_group fs) K ts = (c : List Token) × (ts ≡ t.sign mark.CloseParen ∷ c) × Behind (suc d) fs K c
+Part extra d (operations n fs) K ts = Following n fs K ts
+Part extra d (following_name n fs) K ts = AfterName n fs K ts
+Part extra d (close_group fs) K ts = (c : List Token) × (ts ≡ t.sign mark.CloseParen ∷ c) × Following (suc d) fs K c
 Part extra d end_expr K ts = K 0 ts
 Part extra d owner K ts = Spelled (Option Name) AnyOption owner_then K ts
 Part extra d right K ts = Spelled Right (IsRight (wider extra)) right_then K ts
-Part extra d behind_right_name K ts = (n : List ℕ) → SpelledBehind (t.name n) Right (IsRight (wider extra)) right_then K ts
+Part extra d after_right_name K ts = (n : List ℕ) → SpelledAfter (t.name n) Right (IsRight (wider extra)) right_then K ts
 Part extra d returned K ts = Spelled Returned (IsReturned (wider extra)) returned_then K ts
 Part extra d (block room) K ts = 1 ≤ room → Spelled Block (IsBlock (wider extra) room) block_then K ts
 Part extra d (stmts room) K ts = Spelled Stmts (AreStmts (wider extra) room) (λ x rest. stmts_then x (t.sign mark.CloseBrace ∷ rest)) K ts
-Part extra d behind_stmt_name K ts = (n : List ℕ) → SpelledBehind (t.name n) Stmt (IsSmall extra) stmt_then K ts
+Part extra d after_stmt_name K ts = (n : List ℕ) → SpelledAfter (t.name n) Stmt (IsSmall extra) stmt_then K ts
 Part extra d (otherwise room) K ts = 1 ≤ room → Spelled Else (IsElse (wider extra) room) else_then K ts
-Part extra d (behind_else room) K ts = 1 ≤ room → SpelledBehind (t.keyword word.Else) Else (IsElse (wider extra) room) else_then K ts
+Part extra d (following_else room) K ts = 1 ≤ room → SpelledAfter (t.keyword word.Else) Else (IsElse (wider extra) room) else_then K ts
 Part extra d (arm room) K ts = 1 ≤ room → (c : Name) × (vs : List Name) × (b : Block) × (rest : List Token) × IsBlock (wider extra) room b × (ts ≡ t.keyword word.Case ∷ case_name_then c (enclosed_then name_then mark.OpenParen mark.CloseParen vs (t.sign mark.Colon ∷ block_then b rest))) × K 0 rest
 Part extra d (arms room) K ts = 1 ≤ room → Spelled Arms (AreArms (wider extra) room) (λ x rest. arms_then x (t.sign mark.CloseBrace ∷ rest)) K ts
-Part extra d entry_states K ts = (n : List ℕ) → SpelledBehind (t.name n) Entry IsEntry entry_then K ts
-Part extra d behind_entry_at K ts = (n : List ℕ) → (e : Entry) × (rest : List Token) × IsEntry e × (t.name n ∷ t.sign mark.At ∷ ts ≡ entry_then e rest) × K 0 rest
+Part extra d entry_states K ts = (n : List ℕ) → SpelledAfter (t.name n) Entry IsEntry entry_then K ts
+Part extra d after_entry_at K ts = (n : List ℕ) → (e : Entry) × (rest : List Token) × IsEntry e × (t.name n ∷ t.sign mark.At ∷ ts ≡ entry_then e rest) × K 0 rest
 Part extra d arrow_states K ts = (n : List ℕ) (ss : States) → IsStates ss → (e : Entry) × (rest : List Token) × IsEntry e × (t.name n ∷ t.sign mark.At ∷ states_then ss ts ≡ entry_then e rest) × K 0 rest
 Part extra d clause K ts = Spelled (Option (List Entry)) (λ c. IfSome c (Each IsEntry)) clause_then K ts
 Part extra d head K ts = Spelled Head (IsHead (wider extra)) head_then K ts
 Part extra d (further_states left) K ts = Spelled (List SetState) (λ xs. length xs ≤ left.more) further_states_then K ts
 Part extra d (fields left) K ts = (fs : List Field) × (r : Option States) × (rest : List Token) × Each IsField fs × IfSome r IsStates × (length fs ≤ left.more) × (ts ≡ each_then field_then fs (release_then r (t.sign mark.CloseBrace ∷ rest))) × K 0 rest
-Part extra d behind_fields K ts = (r : Option States) × (rest : List Token) × IfSome r IsStates × (ts ≡ release_then r (t.sign mark.CloseBrace ∷ rest)) × K 0 rest
+Part extra d after_fields K ts = (r : Option States) × (rest : List Token) × IfSome r IsStates × (ts ≡ release_then r (t.sign mark.CloseBrace ∷ rest)) × K 0 rest
 Part extra d (decls left) K ts = (ds : List Decl) × (rest : List Token) × Each (IsDecl (wider extra)) ds × (length ds ≤ left.more) × (ts ≡ each_then decl_then ds rest) × K 0 rest
 
 abbrev pub Spells : (extra : Bounds) → ℕ → List Symbol → Rest → List Token → Type 0
@@ -222,7 +222,7 @@ if_back P false x y p q = q refl
 deeper_is : (d room : ℕ) (ys xs : List Symbol) → if_deeper d room ys ≡ take xs → (d < room) × (ys ≡ xs)
 deeper_is d room ys xs = if_back (λ r. r ≡ take xs → (d < room) × (ys ≡ xs)) (nat_lt d room) (take ys) (exceed 12) (λ h e. (grind (arith, nat_tests), took ys xs e)) (λ h e. absurd cc)
 
--- an operator that binds so is pushed behind what is to its left
+-- an operator that binds so is pushed after what is to its left
 push : (extra : Bounds) (most least room : ℕ) (o : Op) (gs : List Filled) (e : Expr) (K : Rest) (xs : List Symbol) (c : List Token) → (row_of o).arity ≡ 2 → least ≤ level o → BindsFrom (level o) e → Fits most least room gs
     → if_deeper (depth e) room (operand (room - 1) (level_from (suc (level o)) (room - 1) ∷ right_of least room (depth e) ∷ frames gs) ∷ []) ≡ take xs → Spells extra 0 xs K c → Completed most gs K (expr_then e (t.sign (sign_of o) ∷ c))
 push extra most least room o gs e K xs c two le binds fits h k =
@@ -259,13 +259,13 @@ climb_back extra at most m o (prefix_at p ∷ gs) e K xs c two lt binds fits h k
 
 -- ---- back over the first token of an operand
 
--- what comes behind an operand and the operators before it is what comes behind the operand
-pub reduce : (extra : Bounds) (at : Span) (d : ℕ) (fs : List Pending) (K : Rest) (c : List Token) → Part extra 0 (behind_operand d fs) K c → Behind d fs K c
+-- what comes after an operand and the operators before it is what comes after the operand
+pub reduce : (extra : Bounds) (at : Span) (d : ℕ) (fs : List Pending) (K : Rest) (c : List Token) → Part extra 0 (after_operand d fs) K c → Following d fs K c
 reduce extra at d [] K c p = p
 reduce extra at d (level_from least room ∷ fs) K c p = p
 reduce extra at d (right_of least room a ∷ fs) K c p = p
 reduce extra at d (prefixed ∷ fs) K c p = under (reduce extra at (suc d) fs K c p) where
-  under : Behind (suc d) fs K c → (most : ℕ) (gs : List Filled) (e : Expr) → frames gs ≡ prefixed ∷ fs → depth e ≡ d → BindsFrom 11 e → Fits most 11 d gs → Completed most gs K (expr_then e c)
+  under : Following (suc d) fs K c → (most : ℕ) (gs : List Filled) (e : Expr) → frames gs ≡ prefixed ∷ fs → depth e ≡ d → BindsFrom 11 e → Fits most 11 d gs → Completed most gs K (expr_then e c)
   under r most [] e is deep binds fits = absurd cc
   under r most (level_at least room ∷ gs) e is deep binds fits = absurd cc
   under r most (right_at least room o a ∷ gs) e is deep binds fits = absurd cc
@@ -273,12 +273,12 @@ reduce extra at d (prefixed ∷ fs) K c p = under (reduce extra at (suc d) fs K 
       let l = unary_high o fits.1 in
       r most gs (s.unary o e at) (cc) (ap suc deep) (fits.1, omega arith, raised 11 (level o) e (omega arith) binds) fits.2
 
-pub reduce_name : (extra : Bounds) (at : Span) (d : ℕ) (fs : List Pending) (K : Rest) (c : List Token) → Part extra 0 (behind_variable d fs) K c → BehindName d fs K c
+pub reduce_name : (extra : Bounds) (at : Span) (d : ℕ) (fs : List Pending) (K : Rest) (c : List Token) → Part extra 0 (after_variable d fs) K c → AfterName d fs K c
 reduce_name extra at d [] K c p = p
 reduce_name extra at d (level_from least room ∷ fs) K c p = p
 reduce_name extra at d (right_of least room a ∷ fs) K c p = p
 reduce_name extra at d (prefixed ∷ fs) K c p = under (reduce_name extra at (suc d) fs K c p) where
-  under : BehindName (suc d) fs K c → (most : ℕ) (gs : List Filled) (e : Expr) → IsNamed e → frames gs ≡ prefixed ∷ fs → depth e ≡ d → BindsFrom 11 e → Fits most 11 d gs → Completed most gs K (expr_then e c)
+  under : AfterName (suc d) fs K c → (most : ℕ) (gs : List Filled) (e : Expr) → IsNamed e → frames gs ≡ prefixed ∷ fs → depth e ≡ d → BindsFrom 11 e → Fits most 11 d gs → Completed most gs K (expr_then e c)
   under r most [] e so is deep binds fits = absurd cc
   under r most (level_at least room ∷ gs) e so is deep binds fits = absurd cc
   under r most (right_at least room o a ∷ gs) e so is deep binds fits = absurd cc
@@ -316,7 +316,7 @@ start_back extra at room fs (t.sign mark.Not) K xs c h k = λ most gs is some fi
     w most (prefix_at op.Not ∷ gs) (ap (λ x. prefixed ∷ x) is) (omega arith) (refl, refl, lower most 11 room (suc (room - 1)) gs (omega arith) fits)
 start_back extra at room fs _ K xs c h k = absurd cc
 
--- ---- back over what comes behind an operand
+-- ---- back over what comes after an operand
 
 abbrev pub IsSignOf : Mark → Op → Type 0
 IsSignOf m o = (t.sign (sign_of o) ≡ t.sign m) × ((row_of o).arity ≡ 2)
@@ -343,7 +343,7 @@ operator_is mark.AndAnd o e = pick mark.AndAnd op.And o (refl, refl) e
 operator_is mark.OrOr o e = pick mark.OrOr op.Or o (refl, refl) e
 operator_is _ o e = absurd cc
 
-climbs_back : (extra : Bounds) (at : Span) (d : ℕ) (fs : List Pending) (m : Mark) (p : Option Op) (K : Rest) (xs : List Symbol) (c : List Token) → operator_of m ≡ p → climb_by p d fs ≡ take xs → Spells extra 0 xs K c → Behind d fs K (t.sign m ∷ c)
+climbs_back : (extra : Bounds) (at : Span) (d : ℕ) (fs : List Pending) (m : Mark) (p : Option Op) (K : Rest) (xs : List Symbol) (c : List Token) → operator_of m ≡ p → climb_by p d fs ≡ take xs → Spells extra 0 xs K c → Following d fs K (t.sign m ∷ c)
 climbs_back extra at d fs m None K xs c i h k = absurd cc
 climbs_back extra at d fs m (Some o) K xs c i h k = λ most gs e is deep binds fits.
     let two = operator_is m o i in
@@ -352,12 +352,12 @@ climbs_back extra at d fs m (Some o) K xs c i h k = λ most gs e is deep binds f
     let done : Completed most gs K (expr_then e (t.sign (sign_of o) ∷ c)) = climb_back extra at most 11 o gs e K xs c two.1 l.1 binds (lower most 11 d (depth e) gs (omega arith) fits) climbs k in
     subst (λ x. Completed most gs K (expr_then e (x ∷ c))) two.0 done
 
-pub operations_back : (extra : Bounds) (at : Span) (d : ℕ) (fs : List Pending) (x : Token) (K : Rest) (xs : List Symbol) (c : List Token) → react_operations d fs x ≡ take xs → Spells extra 0 xs K c → Behind d fs K (x ∷ c)
+pub operations_back : (extra : Bounds) (at : Span) (d : ℕ) (fs : List Pending) (x : Token) (K : Rest) (xs : List Symbol) (c : List Token) → react_operations d fs x ≡ take xs → Spells extra 0 xs K c → Following d fs K (x ∷ c)
 operations_back extra at d fs (t.sign m) K xs c h k = climbs_back extra at d fs m (operator_of m) K xs c refl h k
 operations_back extra at d fs _ K xs c h k = absurd cc
 
 -- where nothing of it comes
-pub operations_end : (at : Span) (d : ℕ) (fs : List Pending) (K : Rest) (ts : List Token) → K (whole_depth d fs) ts → Behind d fs K ts
+pub operations_end : (at : Span) (d : ℕ) (fs : List Pending) (K : Rest) (ts : List Token) → K (whole_depth d fs) ts → Following d fs K ts
 operations_end at d fs K ts k = λ most gs e is deep binds fits.
     ended at most 11 d gs e K ts binds (omega arith) fits (subst (λ n. K n ts) (ap (λ f. whole_depth d f) (sym is) ∙ ap (λ n. whole_depth n (frames gs)) (sym deep)) k)
 
@@ -366,5 +366,5 @@ operations_end at d fs K ts k = λ most gs e is deep binds fits.
 abbrev Some_rest : Rest → Type 0
 Some_rest K = (d : ℕ) → (c : List Token) × K d c
 
-some_operations : (at : Span) (d : ℕ) (fs : List Pending) (K : Rest) → Some_rest K → (c : List Token) × Behind d fs K c
+some_operations : (at : Span) (d : ℕ) (fs : List Pending) (K : Rest) → Some_rest K → (c : List Token) × Following d fs K c
 some_operations at d fs K k = let r = k (whole_depth d fs) in (r.0, operations_end at d fs K r.0 r.1)

@@ -12,11 +12,11 @@ use Rattle.vlt_syntax.specs.Tree as s
 use Rattle.vlt_syntax.specs.Tree.{If, Name, Ty, Expr, Case, ResultType, Stmt, Head, Block}
 use Rattle.vlt_syntax.specs.Lists.{further_then, listed_then, enclosed_then}
 use Rattle.vlt_syntax.specs.Spelling.{sign_of, at_states_then, case_then, header_then, marked_name_then, owner_then, case_name_then, result_type_then, parameter_then, head_then, decl_then, stmt_then, returned_then, block_then, if_then, named_then, name_then, state_sign, states_then, ty_then, right_then, expr_then}
-use Rattle.vlt_automaton.specs.Automaton.{react_entry_at, one_more_state, react_further_states, reaction_behind, within_count, or_else, react_behind_fields, start_head, start_decl, whole_expr, start_operand, start_expr, react_operations, head_rest, start_ty, start_states, start_entry, start_right, react_right_name, react_tracked, react_type_name, react_stmt_name, start_simple, declaration_tail, enter, behind_if, on_tick, on_keyword, start_tick, Left, Thing, Pending, a_name, a_param, a_ty, a_key, a_case, a_parameter, an_entry, an_expr, an_init, a_result_type, a_simple, a_stmt, a_decl, Symbol, tick, sign, keyword, thing, further, listed, enclosed, marked_name, states, at_states, named, behind_tracked, behind_type_name, operand, operations, behind_name, close_group, end_expr, owner, right, behind_right_name, returned, block, stmts, behind_stmt_name, otherwise, behind_else, arm, arms, entry_states, behind_entry_at, arrow_states, clause, head, further_states, fields, behind_fields, decls, Reaction, take, skip, refuse, exceed, with_behind, start_thing, start_name, less, reaction}
+use Rattle.vlt_automaton.specs.Automaton.{react_entry_at, one_more_state, react_further_states, reaction_after, within_count, or_else, react_after_fields, start_head, start_decl, whole_expr, start_operand, start_expr, react_operations, head_rest, start_ty, start_states, start_entry, start_right, react_right_name, react_tracked, react_type_name, react_stmt_name, start_simple, declaration_tail, enter, following_if, on_tick, on_keyword, start_tick, Left, Thing, Pending, a_name, a_param, a_ty, a_key, a_case, a_parameter, an_entry, an_expr, an_init, a_result_type, a_simple, a_stmt, a_decl, Symbol, tick, sign, keyword, thing, further, listed, enclosed, marked_name, states, at_states, named, after_tracked, after_type_name, operand, operations, following_name, close_group, end_expr, owner, right, after_right_name, returned, block, stmts, after_stmt_name, otherwise, following_else, arm, arms, entry_states, after_entry_at, arrow_states, clause, head, further_states, fields, after_fields, decls, Reaction, take, skip, refuse, exceed, with_after, start_thing, start_name, less, reaction}
 use Rattle.vlt_syntax.specs.Grammar.{level, BindsFrom, depth, IsExpr, IsTy, IsIf, IsBlock, IsHead, IsResultType, Bounds}
 use Rattle.vlt_syntax_laws.proofs.Takes.{IsNoSkip}
 use Rattle.vlt_syntax_laws.proofs.Exprs.{operand_kept, unary_high}
-use Rattle.vlt_syntax_laws.proofs.Back.{reduce, front, IsNamed, start_back, operations_back, raised, level_at, IsSmall, Rest, Part, Spells, Spelled, Wanted, Behind, operations_end}
+use Rattle.vlt_syntax_laws.proofs.Back.{reduce, front, IsNamed, start_back, operations_back, raised, level_at, IsSmall, Rest, Part, Spells, Spelled, Wanted, Following, operations_end}
 use Rattle.vlt_syntax_laws.proofs.Choices.{by_sign, by_name, if_back}
 use Rattle.vlt_syntax_laws.proofs.Whole.{one_room, Backs, Then, followed_back, parted, further_back, enclosed_back, listed_back, stmts_more, block_back, while_back, become_back, the_name, NoSkip, if_both}
 use Rattle.vlt_syntax_laws.proofs.Wider.{wider}
@@ -42,23 +42,23 @@ back_states extra at d K c x =
 
 back_named : (extra : Bounds) (at : Span) (d : ℕ) (K : Rest) (c : List Token) (x : Token) → Backs extra d named K x c (reaction (wider extra) named x)
 back_named extra at d K c x =
-    by_name (λ x r. Backs extra d named K x c (with_behind r (enclosed a_name mark.Less mark.Greater None ∷ []))) x _ _
+    by_name (λ x r. Backs extra d named K x c (with_after r (enclosed a_name mark.Less mark.Greater None ∷ []))) x _ _
     (λ n k. let q = k tt in (record { name = the_name at n; keys = q.0 }, q.1, tt, ap (λ r. t.name n ∷ r) q.3, q.4)) tt
 
-back_tracked : (extra : Bounds) (at : Span) (d : ℕ) (K : Rest) (c : List Token) (x : Token) → Backs extra d behind_tracked K x c (react_tracked x)
+back_tracked : (extra : Bounds) (at : Span) (d : ℕ) (K : Rest) (c : List Token) (x : Token) → Backs extra d after_tracked K x c (react_tracked x)
 back_tracked extra at d K c x =
-    by_sign (λ x r. Backs extra d behind_tracked K x c r) mark.OpenParen x _ _
+    by_sign (λ x r. Backs extra d after_tracked K x c r) mark.OpenParen x _ _
     (λ k. let p = k.4 in let n = p.2 in (s.tracked k.0 n.0 at, n.1, tt, ap (λ r. t.keyword word.Tracked ∷ t.sign mark.OpenParen ∷ r) (k.3 ∙ ap (name_then k.0) (p.1 ∙ ap (λ r. t.sign mark.CloseParen ∷ r) n.3)), n.4))
-    (by_sign (λ x r. Backs extra d behind_tracked K x c r) mark.At x _ _
+    (by_sign (λ x r. Backs extra d after_tracked K x c r) mark.At x _ _
     (λ k. (s.owning (Some k.0) k.4.0 at, k.4.1, k.2, ap (λ r. t.keyword word.Tracked ∷ t.sign mark.At ∷ r) (k.3 ∙ ap (states_then k.0) k.4.3), k.4.4))
-    (by_name (λ x r. Backs extra d behind_tracked K x c (with_behind r (enclosed a_name mark.Less mark.Greater None ∷ []))) x _ _
+    (by_name (λ x r. Backs extra d after_tracked K x c (with_after r (enclosed a_name mark.Less mark.Greater None ∷ []))) x _ _
     (λ n k. let q = k tt in (s.owning None (record { name = the_name at n; keys = q.0 }) at, q.1, tt, ap (λ r. t.keyword word.Tracked ∷ t.name n ∷ r) q.3, q.4)) tt))
 
-back_type_name : (extra : Bounds) (at : Span) (d : ℕ) (K : Rest) (c : List Token) (x : Token) → Backs extra d behind_type_name K x c (react_type_name x)
+back_type_name : (extra : Bounds) (at : Span) (d : ℕ) (K : Rest) (c : List Token) (x : Token) → Backs extra d after_type_name K x c (react_type_name x)
 back_type_name extra at d K c x =
-    by_sign (λ x r. Backs extra d behind_type_name K x c r) mark.Colon x _ _
+    by_sign (λ x r. Backs extra d after_type_name K x c r) mark.Colon x _ _
     (λ k n. (s.guarded (the_name at n) k.0, k.1, tt, ap (λ r. t.name n ∷ t.sign mark.Colon ∷ r) k.3, k.4))
-    (by_sign (λ x r. Backs extra d behind_type_name K x c r) mark.Less x _ _
+    (by_sign (λ x r. Backs extra d after_type_name K x c r) mark.Less x _ _
     (λ k n. (s.plain (record { name = the_name at n; keys = k.0 ∷ k.4.0 }), k.4.1, tt, ap (λ r. t.name n ∷ t.sign mark.Less ∷ r) (k.3 ∙ ap (name_then k.0) k.4.3), k.4.4))
     (λ k n. (s.plain (record { name = the_name at n; keys = [] }), x ∷ c, tt, refl, k)))
 
@@ -81,9 +81,9 @@ back_entry_states extra at d K c x =
     by_sign (λ x r. Backs extra d entry_states K x c r) mark.At x _ _ (λ k. k)
     (λ k n. (s.held (record { key = the_name at n; states = None }), x ∷ c, tt, refl, k))
 
-back_entry_at : (extra : Bounds) (at : Span) (d : ℕ) (K : Rest) (c : List Token) (x : Token) → Backs extra d behind_entry_at K x c (react_entry_at x)
+back_entry_at : (extra : Bounds) (at : Span) (d : ℕ) (K : Rest) (c : List Token) (x : Token) → Backs extra d after_entry_at K x c (react_entry_at x)
 back_entry_at extra at d K c x =
-    by_sign (λ x r. Backs extra d behind_entry_at K x c r) mark.OpenParen x _ _
+    by_sign (λ x r. Backs extra d after_entry_at K x c r) mark.OpenParen x _ _
     (λ k n.
     let l = k.4 in let b = l.2 in let z = b.4 in (
       s.bound (the_name at n) k.0 b.0,
@@ -92,11 +92,11 @@ back_entry_at extra at d K c x =
       ap (λ r. t.name n ∷ t.sign mark.At ∷ t.sign mark.OpenParen ∷ r) (k.3 ∙ ap (name_then k.0) (l.1 ∙ ap (λ r. t.sign mark.LessEqual ∷ r) (b.3 ∙ ap (name_then b.0) z.1))),
       z.2,
     ))
-    (by_sign (λ x r. Backs extra d behind_entry_at K x c (with_behind r (arrow_states ∷ []))) mark.OpenBrace x _ _
+    (by_sign (λ x r. Backs extra d after_entry_at K x c (with_after r (arrow_states ∷ []))) mark.OpenBrace x _ _
     (λ k n.
     let z = k.4.4 n (s.several (k.0 ∷ k.4.0) at) tt in
     (z.0, z.1, z.2, ap (λ r. t.name n ∷ t.sign mark.At ∷ t.sign mark.OpenBrace ∷ r) (k.3 ∙ ap (name_then k.0) k.4.3) ∙ z.3, z.4))
-    (by_name (λ x r. Backs extra d behind_entry_at K x c (with_behind r (arrow_states ∷ []))) x _ _ (λ m k n. k n (s.one (the_name at m)) tt) tt))
+    (by_name (λ x r. Backs extra d after_entry_at K x c (with_after r (arrow_states ∷ []))) x _ _ (λ m k n. k n (s.one (the_name at m)) tt) tt))
 
 back_arrow : (extra : Bounds) (at : Span) (d : ℕ) (K : Rest) (c : List Token) (x : Token) → Backs extra d arrow_states K x c (reaction (wider extra) arrow_states x)
 back_arrow extra at d K c x =
@@ -110,8 +110,8 @@ declared_after extra at x K c i k =
     let a = k.4 in let v = a.2 in let z = v.4 in
     (s.declare x k.0 v.0 at, z.0, (λ room. (i, v.2)), ap (ty_then x) (k.3 ∙ ap (name_then k.0) (a.1 ∙ ap (λ r. t.sign mark.Assign ∷ r) (v.3 ∙ ap (right_then v.0) z.1))), z.2)
 
--- behind the name that a statement begins with
-back_stmt_name : (extra : Bounds) (at : Span) (d : ℕ) (K : Rest) (c : List Token) (x : Token) → Backs extra d behind_stmt_name K x c (react_stmt_name x)
+-- after the name that a statement begins with
+back_stmt_name : (extra : Bounds) (at : Span) (d : ℕ) (K : Rest) (c : List Token) (x : Token) → Backs extra d after_stmt_name K x c (react_stmt_name x)
 back_stmt_name extra at d K c (t.sign mark.Assign) = λ k n. (s.assign (the_name at n) k.0 at, k.4.0, (λ room. k.2), ap (λ r. t.name n ∷ t.sign mark.Assign ∷ r) (k.3 ∙ ap (right_then k.0) k.4.1), k.4.2)
 back_stmt_name extra at d K c (t.sign mark.Dot) = λ k n.
     let a = k.4 in let e = a.2 in let z = e.4 in
@@ -175,7 +175,7 @@ entered : (extra : Bounds) (d : ℕ) (y : Symbol) (K : Rest) (x : Token) (c : Li
 entered extra d y K x c zero xs f = tt
 entered extra d y K x c (suc room) xs f = f (omega arith)
 
-choose_back : (extra : Bounds) (at : Span) (room : ℕ) (K : Rest) (c : List Token) → 1 ≤ room → Spells extra 0 (behind_if room) K c → (i : If) × (rest : List Token) × IsIf (wider extra) room i × (t.keyword word.If ∷ c ≡ if_then i rest) × K 0 rest
+choose_back : (extra : Bounds) (at : Span) (room : ℕ) (K : Rest) (c : List Token) → 1 ≤ room → Spells extra 0 (following_if room) K c → (i : If) × (rest : List Token) × IsIf (wider extra) room i × (t.keyword word.If ∷ c ≡ if_then i rest) × K 0 rest
 choose_back extra at room K c some k =
     let e = k.2 in let p = e.4 in let b = p.2 some in let o = b.4 some in (
       s.choice e.0 b.0 o.0 at,
@@ -190,7 +190,7 @@ arm_then x vs b r = t.keyword word.Case ∷ case_name_then x (enclosed_then name
 
 back_stmt : (extra : Bounds) (at : Span) (room d : ℕ) (K : Rest) (c : List Token) (x : Token) → Backs extra d (thing (a_stmt room)) K x c (start_thing (wider extra) (a_stmt room) x)
 back_stmt extra at room d K c (t.sign mark.OpenBrace) = entered extra d (thing (a_stmt room)) K (t.sign mark.OpenBrace) c room (stmts (room - 1) ∷ []) (λ some k. (s.block (s.braced k.0 at), k.1, (some, k.2), ap (λ r. t.sign mark.OpenBrace ∷ r) k.3, k.4))
-back_stmt extra at room d K c (t.keyword word.If) = entered extra d (thing (a_stmt room)) K (t.keyword word.If) c room (behind_if room) (λ some k. let i = choose_back extra at room K c some k in (s.choose i.0, i.1, i.2, i.3, i.4))
+back_stmt extra at room d K c (t.keyword word.If) = entered extra d (thing (a_stmt room)) K (t.keyword word.If) c room (following_if room) (λ some k. let i = choose_back extra at room K c some k in (s.choose i.0, i.1, i.2, i.3, i.4))
 back_stmt extra at room d K c (t.keyword word.While) = entered extra d (thing (a_stmt room)) K (t.keyword word.While) c room _ (λ some k. while_back extra at room K c some k)
 back_stmt extra at room d K c (t.keyword word.Switch) = entered extra d (thing (a_stmt room)) K (t.keyword word.Switch) c room _ (λ some k.
     let p = k.2.4 in let b = p.2 in let a = b.2 some in let m = a.6 some in (
@@ -221,14 +221,14 @@ back_owner extra at d K c x =
     (λ k. (Some k.0, k.4.0, tt, ap (λ r. t.sign mark.OpenParen ∷ r) (k.3 ∙ ap (name_then k.0) k.4.1), k.4.2))
     (λ k. (None, x ∷ c, tt, refl, k))
 
-back_behind_else : (extra : Bounds) (at : Span) (room d : ℕ) (K : Rest) (c : List Token) (x : Token) → Backs extra d (behind_else room) K x c (reaction (wider extra) (behind_else room) x)
-back_behind_else extra at room d K c (t.keyword word.If) = entered extra d (behind_else room) K (t.keyword word.If) c (room - 1) (behind_if (room - 1)) (λ some k r. let i = choose_back extra at (room - 1) K c some k in (s.chained i.0, i.1, (r, i.2), ap (λ z. t.keyword word.Else ∷ z) i.3, i.4))
-back_behind_else extra at room d K c (t.sign mark.OpenBrace) = λ k r. (s.last (s.braced k.0 at), k.1, (r, k.2), ap (λ z. t.keyword word.Else ∷ t.sign mark.OpenBrace ∷ z) k.3, k.4)
-back_behind_else extra at room d K c (t.keyword w) = tt
-back_behind_else extra at room d K c (t.sign w) = tt
-back_behind_else extra at room d K c _ = tt
+back_after_else : (extra : Bounds) (at : Span) (room d : ℕ) (K : Rest) (c : List Token) (x : Token) → Backs extra d (following_else room) K x c (reaction (wider extra) (following_else room) x)
+back_after_else extra at room d K c (t.keyword word.If) = entered extra d (following_else room) K (t.keyword word.If) c (room - 1) (following_if (room - 1)) (λ some k r. let i = choose_back extra at (room - 1) K c some k in (s.chained i.0, i.1, (r, i.2), ap (λ z. t.keyword word.Else ∷ z) i.3, i.4))
+back_after_else extra at room d K c (t.sign mark.OpenBrace) = λ k r. (s.last (s.braced k.0 at), k.1, (r, k.2), ap (λ z. t.keyword word.Else ∷ t.sign mark.OpenBrace ∷ z) k.3, k.4)
+back_after_else extra at room d K c (t.keyword w) = tt
+back_after_else extra at room d K c (t.sign w) = tt
+back_after_else extra at room d K c _ = tt
 
--- an arm's parts, behind its word
+-- an arm's parts, after its word
 arm_of : (extra : Bounds) (room : ℕ) (K : Rest) (c : List Token) → 1 ≤ room → Spells extra 0 (tick ∷ enclosed a_name mark.OpenParen mark.CloseParen None ∷ sign mark.Colon ∷ block room ∷ []) K c
     → (n : Name) × (vs : List Name) × (b : Block) × (rest : List Token) × IsBlock (wider extra) room b × (t.keyword word.Case ∷ c ≡ arm_then n vs b rest) × K 0 rest
 arm_of extra room K c some k =
@@ -267,14 +267,14 @@ back_clause extra d K c x =
     (λ k. let q = k tt in (Some q.0, q.1, q.2.0, ap (λ r. t.sign mark.OpenBracket ∷ r) q.3, q.4))
     (λ k. (None, x ∷ c, tt, refl, k))
 
-back_behind_fields : (extra : Bounds) (d : ℕ) (K : Rest) (c : List Token) (x : Token) → Backs extra d behind_fields K x c (reaction (wider extra) behind_fields x)
-back_behind_fields extra d K c (t.keyword word.Release) = λ k. let a = k.4 in let b = a.2 in (Some k.0, b.0, k.2, ap (λ r. t.keyword word.Release ∷ r) (k.3 ∙ ap (states_then k.0) (a.1 ∙ ap (λ r. t.sign mark.Semicolon ∷ r) b.1)), b.2)
-back_behind_fields extra d K c (t.sign mark.CloseBrace) = λ k. (None, c, tt, refl, k)
-back_behind_fields extra d K c (t.keyword w) = tt
-back_behind_fields extra d K c (t.sign w) = tt
-back_behind_fields extra d K c _ = tt
+back_after_fields : (extra : Bounds) (d : ℕ) (K : Rest) (c : List Token) (x : Token) → Backs extra d after_fields K x c (reaction (wider extra) after_fields x)
+back_after_fields extra d K c (t.keyword word.Release) = λ k. let a = k.4 in let b = a.2 in (Some k.0, b.0, k.2, ap (λ r. t.keyword word.Release ∷ r) (k.3 ∙ ap (states_then k.0) (a.1 ∙ ap (λ r. t.sign mark.Semicolon ∷ r) b.1)), b.2)
+back_after_fields extra d K c (t.sign mark.CloseBrace) = λ k. (None, c, tt, refl, k)
+back_after_fields extra d K c (t.keyword w) = tt
+back_after_fields extra d K c (t.sign w) = tt
+back_after_fields extra d K c _ = tt
 
--- a head, behind its result_type
+-- a head, after its result_type
 head_after : (extra : Bounds) (at : Span) (x : ResultType) (K : Rest) (c : List Token) → IsResultType x → Spells extra 0 (head_rest (wider extra)) K c → (h : Head) × (rest : List Token) × IsHead (wider extra) h × (result_type_then x c ≡ head_then h rest) × K 0 rest
 head_after extra at x K c i k =
     let p = k.4 in let l = p.2 (omega arith) in let z = l.4 in (
@@ -290,12 +290,12 @@ head_after extra at x K c i k =
 expr_from : (extra : Bounds) (K : Rest) (ts : List Token) → Wanted (wider extra).depth (whole_expr (wider extra)) (λ n r. K 0 r) ts → Spelled Expr (IsExpr (wider extra)) expr_then K ts
 expr_from extra K ts w = let q = w (wider extra).depth (level_at 2 (wider extra).depth ∷ []) refl (omega arith) (omega arith, omega arith, (omega arith, omega arith)) in (q.0, q.1, (raised 2 0 q.0 (omega arith) q.2, q.3), q.4, q.5)
 
-expr_behind : (extra : Bounds) (e : Expr) (K : Rest) (ts : List Token) → depth e ≡ 1 → BindsFrom 11 e → Behind 1 (whole_expr (wider extra)) (λ n r. K 0 r) ts → Spelled Expr (IsExpr (wider extra)) expr_then K (expr_then e ts)
-expr_behind extra e K ts one b w = let q = w (wider extra).depth (level_at 2 (wider extra).depth ∷ []) e refl one b (omega arith, omega arith, (omega arith, omega arith)) in (q.0, q.1, (raised 2 0 q.0 (omega arith) q.2, q.3), q.4, q.5)
+expr_after : (extra : Bounds) (e : Expr) (K : Rest) (ts : List Token) → depth e ≡ 1 → BindsFrom 11 e → Following 1 (whole_expr (wider extra)) (λ n r. K 0 r) ts → Spelled Expr (IsExpr (wider extra)) expr_then K (expr_then e ts)
+expr_after extra e K ts one b w = let q = w (wider extra).depth (level_at 2 (wider extra).depth ∷ []) e refl one b (omega arith, omega arith, (omega arith, omega arith)) in (q.0, q.1, (raised 2 0 q.0 (omega arith) q.2, q.3), q.4, q.5)
 
 back_expr : (extra : Bounds) (at : Span) (d : ℕ) (K : Rest) (c : List Token) (x : Token) → Backs extra d (thing an_expr) K x c (start_expr (wider extra) x)
 back_expr extra at d K c x = on (start_operand (wider extra).depth (whole_expr (wider extra)) x) refl (operand_kept (wider extra).depth (whole_expr (wider extra)) x) where
-  on : (r : Reaction) → start_operand (wider extra).depth (whole_expr (wider extra)) x ≡ r → IsNoSkip r → Backs extra d (thing an_expr) K x c (with_behind r (end_expr ∷ []))
+  on : (r : Reaction) → start_operand (wider extra).depth (whole_expr (wider extra)) x ≡ r → IsNoSkip r → Backs extra d (thing an_expr) K x c (with_after r (end_expr ∷ []))
   on (take ys) e kept = λ h. expr_from extra K (x ∷ c) (start_back extra at (wider extra).depth (whole_expr (wider extra)) x (λ n r. K 0 r) ys c e (parted extra 0 ys (end_expr ∷ []) K c h))
   on skip e kept = absurd kept
   on refuse e kept = tt
@@ -326,16 +326,16 @@ back_right extra at d K c (t.tick n) = λ k. let q = k tt in (s.build (record { 
 back_right extra at d K c (t.name n) = λ k. k n
 back_right extra at d K c x = as_value extra d K c x (start_expr (wider extra) x) (back_expr extra at d K c x)
 
-back_right_name : (extra : Bounds) (at : Span) (d : ℕ) (K : Rest) (c : List Token) (x : Token) → Backs extra d behind_right_name K x c (react_right_name (wider extra) x)
+back_right_name : (extra : Bounds) (at : Span) (d : ℕ) (K : Rest) (c : List Token) (x : Token) → Backs extra d after_right_name K x c (react_right_name (wider extra) x)
 back_right_name extra at d K c x =
-    by_sign (λ x r. Backs extra d behind_right_name K x c r) mark.OpenParen x _ _
+    by_sign (λ x r. Backs extra d after_right_name K x c r) mark.OpenParen x _ _
     (λ k n. let q = k tt in (s.call (record { function = the_name at n; arguments = q.0; at = at }), q.1, q.2.0, ap (λ r. t.name n ∷ t.sign mark.OpenParen ∷ r) q.3, q.4))
-    (by_sign (λ x r. Backs extra d behind_right_name K x c r) mark.Dot x _ _
-    (λ k n. let q = expr_behind extra (s.field (the_name at n) k.0) K k.1 refl tt k.4 in (s.value q.0, q.1, q.2, ap (λ r. t.name n ∷ t.sign mark.Dot ∷ r) k.3 ∙ q.3, q.4))
+    (by_sign (λ x r. Backs extra d after_right_name K x c r) mark.Dot x _ _
+    (λ k n. let q = expr_after extra (s.field (the_name at n) k.0) K k.1 refl tt k.4 in (s.value q.0, q.1, q.2, ap (λ r. t.name n ∷ t.sign mark.Dot ∷ r) k.3 ∙ q.3, q.4))
     (on (react_operations 1 (whole_expr (wider extra)) x) refl)) where
-      on : (r : Reaction) → react_operations 1 (whole_expr (wider extra)) x ≡ r → Backs extra d behind_right_name K x c (with_behind r (end_expr ∷ []))
+      on : (r : Reaction) → react_operations 1 (whole_expr (wider extra)) x ≡ r → Backs extra d after_right_name K x c (with_after r (end_expr ∷ []))
       on (take ys) e = λ h n.
-          let q = expr_behind extra (s.variable (the_name at n)) K (x ∷ c) refl tt (operations_back extra at 1 (whole_expr (wider extra)) x (λ n r. K 0 r) ys c e (parted extra 0 ys (end_expr ∷ []) K c h)) in
+          let q = expr_after extra (s.variable (the_name at n)) K (x ∷ c) refl tt (operations_back extra at 1 (whole_expr (wider extra)) x (λ n r. K 0 r) ys c e (parted extra 0 ys (end_expr ∷ []) K c h)) in
           (s.value q.0, q.1, q.2, q.3, q.4)
       on skip e = λ h n. (s.value (s.variable (the_name at n)), x ∷ c, (tt, omega arith), refl, h)
       on refuse e = tt
@@ -350,7 +350,7 @@ back_returned extra at d K c x = as_returned extra d K c x (start_expr (wider ex
 -- ---- the other things
 
 -- a type and then others, and a name and then others
-ty_then_back : (extra : Bounds) (at : Span) (ys : List Symbol) (K : Rest) (c : List Token) (x : Token) → Then extra (λ L ts. Part extra 0 (thing a_ty) L ts) ys K x c (with_behind (start_ty x) ys)
+ty_then_back : (extra : Bounds) (at : Span) (ys : List Symbol) (K : Rest) (c : List Token) (x : Token) → Then extra (λ L ts. Part extra 0 (thing a_ty) L ts) ys K x c (with_after (start_ty x) ys)
 ty_then_back extra at ys K c x = followed_back extra a_ty x c ys K (start_ty x) (back_ty extra at 0 (λ n q. Spells extra n ys K q) c x)
 
 -- from such a law to another's, where the reaction isn't to skip
@@ -360,7 +360,7 @@ through extra d y P ys K x c skip kept b f = absurd kept
 through extra d y P ys K x c refuse kept b f = tt
 through extra d y P ys K x c (exceed n) kept b f = tt
 
-ty_kept : (x : Token) (ys : List Symbol) → NoSkip (with_behind (start_ty x) ys)
+ty_kept : (x : Token) (ys : List Symbol) → NoSkip (with_after (start_ty x) ys)
 ty_kept (t.keyword word.Int) ys = tt
 ty_kept (t.keyword word.Bool) ys = tt
 ty_kept (t.keyword word.Tracked) ys = tt
@@ -398,7 +398,7 @@ back_result_type extra at d K c (t.name n) = λ k. let q = k n in (s.value q.0, 
 back_result_type extra at d K c (t.keyword w) = tt
 back_result_type extra at d K c _ = tt
 
-result_type_kept : (extra : Bounds) (x : Token) (ys : List Symbol) → NoSkip (with_behind (start_thing (wider extra) a_result_type x) ys)
+result_type_kept : (extra : Bounds) (x : Token) (ys : List Symbol) → NoSkip (with_after (start_thing (wider extra) a_result_type x) ys)
 result_type_kept extra (t.keyword word.Void) ys = tt
 result_type_kept extra (t.keyword word.Int) ys = tt
 result_type_kept extra (t.keyword word.Bool) ys = tt
@@ -411,19 +411,19 @@ back_head : (extra : Bounds) (at : Span) (d : ℕ) (K : Rest) (c : List Token) (
 back_head extra at d K c x = through extra d head (λ L ts. Part extra 0 (thing a_result_type) L ts) (head_rest (wider extra)) K x c _ (result_type_kept extra x _) (followed_back extra a_result_type x c (head_rest (wider extra)) K _ (back_result_type extra at 0 (λ n q. Spells extra n (head_rest (wider extra)) K q) c x))
     (λ q. let h = head_after extra at q.0 K q.1 q.2 q.4 in (h.0, h.1, h.2, q.3 ∙ h.3, h.4))
 
-followed_kept : (r : Reaction) (ys : List Symbol) → NoSkip r → NoSkip (with_behind r ys)
+followed_kept : (r : Reaction) (ys : List Symbol) → NoSkip r → NoSkip (with_after r ys)
 followed_kept (take xs) ys h = tt
 followed_kept skip ys h = h
 followed_kept refuse ys h = tt
 followed_kept (exceed n) ys h = tt
 
-then_block : (extra : Bounds) (x : Token) (c : List Token) (ys : List Symbol) (K : Rest) (r : Reaction) → Backs extra 0 head (λ n q. Spells extra n ys K q) x c r → Then extra (λ L ts. Part extra 0 head L ts) ys K x c (with_behind r ys)
+then_block : (extra : Bounds) (x : Token) (c : List Token) (ys : List Symbol) (K : Rest) (r : Reaction) → Backs extra 0 head (λ n q. Spells extra n ys K q) x c r → Then extra (λ L ts. Part extra 0 head L ts) ys K x c (with_after r ys)
 then_block extra x c ys K (take xs) b = λ h. b (parted extra 0 xs ys K c h)
 then_block extra x c ys K skip b = tt
 then_block extra x c ys K refuse b = tt
 then_block extra x c ys K (exceed n) b = tt
 
-back_function : (extra : Bounds) (at : Span) (d : ℕ) (K : Rest) (c : List Token) (x : Token) → Backs extra d (thing a_decl) K x c (with_behind (start_head (wider extra) x) (block (wider extra).depth ∷ []))
+back_function : (extra : Bounds) (at : Span) (d : ℕ) (K : Rest) (c : List Token) (x : Token) → Backs extra d (thing a_decl) K x c (with_after (start_head (wider extra) x) (block (wider extra).depth ∷ []))
 back_function extra at d K c x = through extra d (thing a_decl) (λ L ts. Part extra 0 head L ts) (block (wider extra).depth ∷ []) K x c _ (followed_kept (start_head (wider extra) x) (block (wider extra).depth ∷ []) (result_type_kept extra x (head_rest (wider extra))))
     (then_block extra x c (block (wider extra).depth ∷ []) K (start_head (wider extra) x) (back_head extra at 0 (λ n q. Spells extra n (block (wider extra).depth ∷ []) K q) c x))
     (λ q. let b = q.4 (omega arith) in (s.function q.0 b.0 at, b.1, (q.2, b.2), q.3 ∙ ap (head_then q.0) b.3, b.4))
@@ -473,7 +473,7 @@ field_list rest = thing a_name ∷ at_states ∷ sign mark.Semicolon ∷ fields 
 abbrev field_rest : Left → List Symbol
 field_rest left = field_list (one_less left)
 
--- a field, and those behind it
+-- a field, and those after it
 field_more : (extra : Bounds) (at : Span) (left : Left) (x : Ty) (d : ℕ) (K : Rest) (c : List Token) → (left.more == 0) ≡ false → IsTy x → Spells extra 0 (thing a_name ∷ at_states ∷ sign mark.Semicolon ∷ fields (one_less left) ∷ []) K c → Part extra d (fields left) K (ty_then x c)
 field_more extra at left x d K c e i k =
     let o = k.4 in let z = o.4 in let f = z.2 in (
@@ -494,7 +494,7 @@ ty_only (t.keyword word.Tracked) = tt
 ty_only (t.name n) = tt
 ty_only _ = tt
 
-as_fields : (extra : Bounds) (left : Left) (d : ℕ) (K : Rest) (c : List Token) (x : Token) (r : Reaction) → Backs extra d behind_fields K x c r → Backs extra d (fields left) K x c r
+as_fields : (extra : Bounds) (left : Left) (d : ℕ) (K : Rest) (c : List Token) (x : Token) (r : Reaction) → Backs extra d after_fields K x c r → Backs extra d (fields left) K x c r
 as_fields extra left d K c x (take xs) b = λ h. let q = b h in ([], q.0, q.1, tt, q.2, omega arith, q.3, q.4)
 as_fields extra left d K c x skip b = λ h. let q = b h in ([], q.0, q.1, tt, q.2, omega arith, q.3, q.4)
 as_fields extra left d K c x refuse b = tt
@@ -502,11 +502,11 @@ as_fields extra left d K c x (exceed n) b = tt
 
 back_fields : (extra : Bounds) (at : Span) (left : Left) (d : ℕ) (K : Rest) (c : List Token) (x : Token) → Backs extra d (fields left) K x c (reaction (wider extra) (fields left) x)
 back_fields extra at left d K c x = on (start_ty x) (ty_only x) (back_ty extra at 0 (λ n q. Spells extra n (field_rest left) K q) c x) where
-  on : (r : Reaction) → NoSkip r → Backs extra 0 (thing a_ty) (λ n q. Spells extra n (field_rest left) K q) x c r → Backs extra d (fields left) K x c (or_else (within_count left r field_list) (react_behind_fields x))
-  on (take xs) kept b = if_both (λ r. Backs extra d (fields left) K x c (or_else r (react_behind_fields x))) (left.more == 0) _ _ (λ e. tt)
+  on : (r : Reaction) → NoSkip r → Backs extra 0 (thing a_ty) (λ n q. Spells extra n (field_rest left) K q) x c r → Backs extra d (fields left) K x c (or_else (within_count left r field_list) (react_after_fields x))
+  on (take xs) kept b = if_both (λ r. Backs extra d (fields left) K x c (or_else r (react_after_fields x))) (left.more == 0) _ _ (λ e. tt)
       (λ e h. let q = b (parted extra 0 xs (field_rest left) K c h) in subst (λ ts. Part extra d (fields left) K ts) (sym q.3) (field_more extra at left q.0 d K q.1 e q.2 q.4))
   on skip kept b = absurd kept
-  on refuse kept b = as_fields extra left d K c x (react_behind_fields x) (back_behind_fields extra d K c x)
+  on refuse kept b = as_fields extra left d K c x (react_after_fields x) (back_after_fields extra d K c x)
   on (exceed n) kept b = tt
 
 -- ---- operands
@@ -527,7 +527,7 @@ back_operations extra at n fs d K c x = on (react_operations n fs x) refl where
   on refuse e = tt
   on (exceed m) e = tt
 
-as_name : (extra : Bounds) (n : ℕ) (fs : List Pending) (d : ℕ) (K : Rest) (c : List Token) (x : Token) (r : Reaction) → Backs extra d (operations n fs) K x c r → Backs extra d (behind_name n fs) K x c r
+as_name : (extra : Bounds) (n : ℕ) (fs : List Pending) (d : ℕ) (K : Rest) (c : List Token) (x : Token) (r : Reaction) → Backs extra d (operations n fs) K x c r → Backs extra d (following_name n fs) K x c r
 as_name extra n fs d K c x (take xs) b = λ h most gs e so is deep binds fits. b h most gs e is deep binds fits
 as_name extra n fs d K c x skip b = λ h most gs e so is deep binds fits. b h most gs e is deep binds fits
 as_name extra n fs d K c x refuse b = tt
@@ -547,16 +547,16 @@ fielded at (s.field x g) f so b = absurd so
 fielded at (s.group e p) f so b = absurd so
 fielded at (s.binary o l r p) f so b = absurd so
 
-back_behind_name : (extra : Bounds) (at : Span) (n : ℕ) (fs : List Pending) (d : ℕ) (K : Rest) (c : List Token) (x : Token) → Backs extra d (behind_name n fs) K x c (reaction (wider extra) (behind_name n fs) x)
-back_behind_name extra at n fs d K c x =
-    by_sign (λ x r. Backs extra d (behind_name n fs) K x c r) mark.Dot x _ _
+back_after_name : (extra : Bounds) (at : Span) (n : ℕ) (fs : List Pending) (d : ℕ) (K : Rest) (c : List Token) (x : Token) → Backs extra d (following_name n fs) K x c (reaction (wider extra) (following_name n fs) x)
+back_after_name extra at n fs d K c x =
+    by_sign (λ x r. Backs extra d (following_name n fs) K x c r) mark.Dot x _ _
     (λ k most gs e so is deep binds fits.
     let g = fielded at e k.0 so binds in
     let q = k.4 most gs g.0 is (g.1 ∙ deep) g.2 fits in
     (q.0, q.1, q.2, q.3, ap (λ r. front gs (expr_then e (t.sign mark.Dot ∷ r))) k.3 ∙ ap (front gs) (g.3 k.1) ∙ q.4, q.5))
     (as_name extra n fs d K c x (react_operations n fs x) (back_operations extra at n fs d K c x))
 
-back_close : (extra : Bounds) (at : Span) (fs : List Pending) (d : ℕ) (K : Rest) (c : List Token) (x : Token) → Backs extra d (close_group fs) K x c (reaction_behind (wider extra) d (close_group fs) x)
+back_close : (extra : Bounds) (at : Span) (fs : List Pending) (d : ℕ) (K : Rest) (c : List Token) (x : Token) → Backs extra d (close_group fs) K x c (reaction_after (wider extra) d (close_group fs) x)
 back_close extra at fs d K c x = by_sign (λ x r. Backs extra d (close_group fs) K x c r) mark.CloseParen x _ _ (λ k. (c, refl, reduce extra at (suc d) fs K c k)) tt
 
 -- ---- all of them
@@ -655,13 +655,13 @@ back_stmts : (extra : Bounds) (at : Span) (room d : ℕ) (K : Rest) (c : List To
 back_stmts extra at room d K c x =
     by_sign (λ x r. Backs extra 0 (thing (a_stmt room)) (λ n q. Spells extra n (stmts room ∷ []) K q) x c (start_thing (wider extra) (a_stmt room) x) → NoSkip (start_thing (wider extra) (a_stmt room) x) → Backs extra d (stmts room) K x c r) mark.CloseBrace x _ _
     (λ b kept h. (s.done, c, tt, refl, h)) (λ b kept. on (start_thing (wider extra) (a_stmt room) x) b kept) (back_stmt extra at room 0 (λ n q. Spells extra n (stmts room ∷ []) K q) c x) (thing_kept extra (a_stmt room) x) where
-      on : (r : Reaction) → Backs extra 0 (thing (a_stmt room)) (λ n q. Spells extra n (stmts room ∷ []) K q) x c r → NoSkip r → Backs extra d (stmts room) K x c (with_behind r (stmts room ∷ []))
+      on : (r : Reaction) → Backs extra 0 (thing (a_stmt room)) (λ n q. Spells extra n (stmts room ∷ []) K q) x c r → NoSkip r → Backs extra d (stmts room) K x c (with_after r (stmts room ∷ []))
       on (take xs) b kept = λ h. stmts_more extra room d K (x ∷ c) (b (parted extra 0 xs (stmts room ∷ []) K c h))
       on skip b kept = absurd kept
       on refuse b kept = tt
       on (exceed n) b kept = tt
 
-pub backs : (extra : Bounds) (at : Span) (d : ℕ) (y : Symbol) (K : Rest) (x : Token) (c : List Token) → Backs extra d y K x c (reaction_behind (wider extra) d y x)
+pub backs : (extra : Bounds) (at : Span) (d : ℕ) (y : Symbol) (K : Rest) (x : Token) (c : List Token) → Backs extra d y K x c (reaction_after (wider extra) d y x)
 backs extra at d tick K x c = back_tick extra at d K c x
 backs extra at d (sign m) K x c = by_sign (λ x r. Backs extra d (sign m) K x c r) m x _ _ (λ k. (c, refl, k)) tt
 backs extra at d (keyword w) K x c = by_keyword (λ x r. Backs extra d (keyword w) K x c r) w x _ _ (λ k. (c, refl, k)) tt
@@ -673,30 +673,30 @@ backs extra at d (marked_name m) K x c = by_sign (λ x r. Backs extra d (marked_
 backs extra at d states K x c = back_states extra at d K c x
 backs extra at d at_states K x c = by_sign (λ x r. Backs extra d at_states K x c r) mark.At x _ _ (λ k. (Some k.0, k.1, k.2, ap (λ r. t.sign mark.At ∷ r) k.3, k.4)) (λ k. (None, x ∷ c, tt, refl, k))
 backs extra at d named K x c = back_named extra at d K c x
-backs extra at d behind_tracked K x c = back_tracked extra at d K c x
-backs extra at d behind_type_name K x c = back_type_name extra at d K c x
+backs extra at d after_tracked K x c = back_tracked extra at d K c x
+backs extra at d after_type_name K x c = back_type_name extra at d K c x
 backs extra at d (operand room fs) K x c = back_operand extra at room fs d K c x
 backs extra at d (operations n fs) K x c = back_operations extra at n fs d K c x
-backs extra at d (behind_name n fs) K x c = back_behind_name extra at n fs d K c x
+backs extra at d (following_name n fs) K x c = back_after_name extra at n fs d K c x
 backs extra at d (close_group fs) K x c = back_close extra at fs d K c x
 backs extra at d end_expr K x c = λ k. k
 backs extra at d owner K x c = back_owner extra at d K c x
 backs extra at d right K x c = back_right extra at d K c x
-backs extra at d behind_right_name K x c = back_right_name extra at d K c x
+backs extra at d after_right_name K x c = back_right_name extra at d K c x
 backs extra at d returned K x c = back_returned extra at d K c x
 backs extra at d (block room) K x c = block_back extra at room d K c x
 backs extra at d (stmts room) K x c = back_stmts extra at room d K c x
-backs extra at d behind_stmt_name K x c = back_stmt_name extra at d K c x
+backs extra at d after_stmt_name K x c = back_stmt_name extra at d K c x
 backs extra at d (otherwise room) K x c = back_else extra at room d K c x
-backs extra at d (behind_else room) K x c = back_behind_else extra at room d K c x
+backs extra at d (following_else room) K x c = back_after_else extra at room d K c x
 backs extra at d (arm room) K x c = back_arm extra room d K c x
 backs extra at d (arms room) K x c = back_arms extra at room d K c x
 backs extra at d entry_states K x c = back_entry_states extra at d K c x
-backs extra at d behind_entry_at K x c = back_entry_at extra at d K c x
+backs extra at d after_entry_at K x c = back_entry_at extra at d K c x
 backs extra at d arrow_states K x c = back_arrow extra at d K c x
 backs extra at d clause K x c = back_clause extra d K c x
 backs extra at d head K x c = back_head extra at d K c x
 backs extra at d (further_states left) K x c = back_further_states extra left d K c x
 backs extra at d (fields left) K x c = back_fields extra at left d K c x
-backs extra at d behind_fields K x c = back_behind_fields extra d K c x
+backs extra at d after_fields K x c = back_after_fields extra d K c x
 backs extra at d (decls left) K x c = back_decls extra at left d K c x

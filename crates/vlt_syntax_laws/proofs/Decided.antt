@@ -11,7 +11,7 @@ use Rattle.vlt_syntax.specs.Spelling.{spelling, decl_then}
 use Rattle.vlt_syntax.specs.Grammar.{Bounds, language, IsTree, IsPlacedTreeOf}
 use Rattle.vlt_syntax.specs.Places.{tree_with_places}
 use Rattle.vlt_syntax.specs.Refusals.{Refusal, IsRefusal}
-use Rattle.vlt_automaton.specs.Automaton.{Symbol, Next, to, unexpected, over, step, may_skip, may_end, depth_read, start, run, Verdict, located_of, enclosed, marked_name, at_states, behind_type_name, operations, behind_name, end_expr, owner, behind_right_name, otherwise, entry_states, arrow_states, clause, decls}
+use Rattle.vlt_automaton.specs.Automaton.{Symbol, Next, to, unexpected, over, step, may_skip, may_end, depth_read, start, run, Verdict, located_of, enclosed, marked_name, at_states, after_type_name, operations, following_name, end_expr, owner, after_right_name, otherwise, entry_states, arrow_states, clause, decls}
 use Rattle.vlt_syntax_laws.proofs.After.{after, onward}
 use Rattle.vlt_syntax_laws.proofs.Anew.{placed_tree}
 use Rattle.vlt_syntax_laws.proofs.Back.{Rest, Part, Spells, operations_end}
@@ -27,12 +27,12 @@ skipped : (extra : Bounds) (at : Span) (d : ℕ) (y : Symbol) (K : Rest) → may
 skipped extra at d (enclosed i o m left) K e k = λ r. ([], [], (tt, no_room left), refl, k)
 skipped extra at d (marked_name m) K e k = (None, [], tt, refl, k)
 skipped extra at d at_states K e k = (None, [], tt, refl, k)
-skipped extra at d behind_type_name K e k = λ n. (s.plain (record { name = the_name at n; keys = [] }), [], tt, refl, k)
-skipped extra at d (behind_name n fs) K e k = λ most gs x so is deep b fits. operations_end at n fs K [] k most gs x is deep b fits
+skipped extra at d after_type_name K e k = λ n. (s.plain (record { name = the_name at n; keys = [] }), [], tt, refl, k)
+skipped extra at d (following_name n fs) K e k = λ most gs x so is deep b fits. operations_end at n fs K [] k most gs x is deep b fits
 skipped extra at d (operations n fs) K e k = operations_end at n fs K [] k
 skipped extra at d end_expr K e k = k
 skipped extra at d owner K e k = (None, [], tt, refl, k)
-skipped extra at d behind_right_name K e k = λ n. (s.value (s.variable (the_name at n)), [], (tt, omega arith), refl, k)
+skipped extra at d after_right_name K e k = λ n. (s.value (s.variable (the_name at n)), [], (tt, omega arith), refl, k)
 skipped extra at d (otherwise room) K e k = λ r. (s.nothing, [], tt, refl, k)
 skipped extra at d entry_states K e k = λ n. (s.held (record { key = the_name at n; states = None }), [], tt, refl, k)
 skipped extra at d arrow_states K e k = λ n ss i. (s.held (record { key = the_name at n; states = Some ss }), [], i, refl, k)

@@ -11,7 +11,7 @@ use Rattle.vlt_syntax.specs.Tree.{Name, Ty, States, KeyStates, SetState, HeaderK
 use Rattle.vlt_syntax.specs.Lists.{Each, listed_then, enclosed_then, further_then, each_then}
 use Rattle.vlt_syntax.specs.Spelling.{name_then, state_sign, further_states_then, states_then, at_states_then, ty_then, field_then, release_then, case_then, entry_then, key_states_then, parameter_then, header_key_then, result_type_then, clause_then, decl_then, marked_name_then, spelling}
 use Rattle.vlt_syntax.specs.Grammar.{IsTy, IsStates, IsKeyStates, IsField, IsCase, IsEntry, IsResultType, IsParameter, IsHead, IsDecl, IsTree, Bounds}
-use Rattle.vlt_automaton.specs.Automaton.{to, Left, Symbol, Thing, a_param, a_ty, a_key, a_case, a_parameter, an_entry, thing, further, listed, enclosed, marked_name, sign, name, at_states, named, clause, head, block, further_states, fields, decls, less, arrow_states, behind_entry_at, states, entry_states, parameters_left}
+use Rattle.vlt_automaton.specs.Automaton.{to, Left, Symbol, Thing, a_param, a_ty, a_key, a_case, a_parameter, an_entry, thing, further, listed, enclosed, marked_name, sign, name, at_states, named, clause, head, block, further_states, fields, decls, less, arrow_states, after_entry_at, states, entry_states, parameters_left}
 use Rattle.vlt_syntax_laws.proofs.After.{after}
 use Rattle.vlt_syntax_laws.proofs.Takes.{same, Takes, take_some, take_ty, take_named, keys_there, plain_keys, take_states, ends_type}
 use Rattle.vlt_syntax_laws.proofs.Stmts.{take_block, take_right, take_returned}
@@ -67,7 +67,7 @@ param_greater extra p s rest h = on p.key_type where
   on None = refl
   on (Some n) = refl
 
--- a type with a name behind it
+-- a type with a name after it
 typed : (extra : Bounds) (x : Ty) (n : Name) (rest : List Token) (s : List Symbol) → IsTy x → after (wider extra) (ty_then x (name_then n rest)) (thing a_parameter ∷ s) ≡ after (wider extra) rest s
 typed extra (s.int at) n rest s h = refl
 typed extra (s.bool at) n rest s h = refl
@@ -124,8 +124,8 @@ take_fields extra (f ∷ fs) r l s rest h n i = take_field extra f l s _ h.0 (om
 
 -- ---- heads
 
--- states behind the `@` of an entry
-states_there : (extra : Bounds) (ss : States) (q : List Symbol) (rest : List Token) → IsStates ss → after (wider extra) (states_then ss rest) (behind_entry_at ∷ q) ≡ after (wider extra) rest (arrow_states ∷ q)
+-- states after the `@` of an entry
+states_there : (extra : Bounds) (ss : States) (q : List Symbol) (rest : List Token) → IsStates ss → after (wider extra) (states_then ss rest) (after_entry_at ∷ q) ≡ after (wider extra) rest (arrow_states ∷ q)
 states_there extra (s.one n) q rest h = refl
 states_there extra (s.several ns at) q rest h = take_states extra (s.several ns at) (arrow_states ∷ q) rest h
 
@@ -136,7 +136,7 @@ entry_before extra (s.held k) m s rest h a b c = held_on k.states h where
   held_on : (o : Option States) → IfSome o IsStates → after (wider extra) (t.name k.key.text ∷ at_states_then o (t.sign m ∷ rest)) (thing an_entry ∷ s) ≡ after (wider extra) (t.sign m ∷ rest) s
   held_on None i = c
   held_on (Some ss) i = states_there extra ss s _ i ∙ b s
-entry_before extra (s.changed k before behind) m s rest h a b c = states_there extra before s _ h.0 ∙ take_states extra behind s _ h.1
+entry_before extra (s.changed k before following) m s rest h a b c = states_there extra before s _ h.0 ∙ take_states extra following s _ h.1
 entry_before extra (s.bound k v u) m s rest h a b c = refl
 entry_before extra (s.taken k at) m s rest h a b c = key_states_end extra k m s rest h (a s)
 entry_before extra (s.given k at) m s rest h a b c = key_states_end extra k m s rest h (a s)
@@ -148,26 +148,26 @@ entry_comma extra e s rest h = entry_before extra e mark.Comma s rest h (λ q. r
 entry_bracket : (extra : Bounds) → Takes extra entry_then an_entry IsEntry mark.CloseBracket
 entry_bracket extra e s rest h = entry_before extra e mark.CloseBracket s rest h (λ q. refl) (λ q. refl) refl
 
-abbrev behind_result_type : (extra : Bounds) → List Symbol → List Symbol
-behind_result_type extra s = name ∷ sign mark.OpenParen ∷ listed a_parameter mark.CloseParen (parameters_left (wider extra)) ∷ clause ∷ s
+abbrev following_result_type : (extra : Bounds) → List Symbol → List Symbol
+following_result_type extra s = name ∷ sign mark.OpenParen ∷ listed a_parameter mark.CloseParen (parameters_left (wider extra)) ∷ clause ∷ s
 
-result_type_head : (extra : Bounds) (x : ResultType) (ts : List Token) (s : List Symbol) → IsResultType x → ends_type ts ≡ true → after (wider extra) (result_type_then x ts) (head ∷ s) ≡ after (wider extra) ts (behind_result_type extra s)
+result_type_head : (extra : Bounds) (x : ResultType) (ts : List Token) (s : List Symbol) → IsResultType x → ends_type ts ≡ true → after (wider extra) (result_type_then x ts) (head ∷ s) ≡ after (wider extra) ts (following_result_type extra s)
 result_type_head extra (s.void at) ts s h e = refl
 result_type_head extra (s.value (s.int at)) ts s h e = refl
 result_type_head extra (s.value (s.bool at)) ts s h e = refl
 result_type_head extra (s.value (s.tracked k n at)) ts s h e = keys_there extra n.keys _ ts e
 result_type_head extra (s.value (s.owning None n at)) ts s h e = keys_there extra n.keys _ ts e
-result_type_head extra (s.value (s.owning (Some ss) n at)) ts s h e = take_states extra ss (named ∷ behind_result_type extra s) _ h ∙ take_named extra n _ ts e
+result_type_head extra (s.value (s.owning (Some ss) n at)) ts s h e = take_states extra ss (named ∷ following_result_type extra s) _ h ∙ take_named extra n _ ts e
 result_type_head extra (s.value (s.guarded k n)) ts s h e = take_named extra n _ ts e
 result_type_head extra (s.value (s.plain n)) ts s h e = plain_keys extra n.keys _ ts e
 
-result_type_decl : (extra : Bounds) (x : ResultType) (ts : List Token) (l : Left) (s : List Symbol) → IsResultType x → ends_type ts ≡ true → 1 ≤ l.more → after (wider extra) (result_type_then x ts) (decls l ∷ s) ≡ after (wider extra) ts (behind_result_type extra (block (wider extra).depth ∷ decls (one_less l) ∷ s))
+result_type_decl : (extra : Bounds) (x : ResultType) (ts : List Token) (l : Left) (s : List Symbol) → IsResultType x → ends_type ts ≡ true → 1 ≤ l.more → after (wider extra) (result_type_then x ts) (decls l ∷ s) ≡ after (wider extra) ts (following_result_type extra (block (wider extra).depth ∷ decls (one_less l) ∷ s))
 result_type_decl extra (s.void at) ts l s h e some = rw (some_left l some) refl
 result_type_decl extra (s.value (s.int at)) ts l s h e some = rw (some_left l some) refl
 result_type_decl extra (s.value (s.bool at)) ts l s h e some = rw (some_left l some) refl
 result_type_decl extra (s.value (s.tracked k n at)) ts l s h e some = rw (some_left l some) (keys_there extra n.keys _ ts e)
 result_type_decl extra (s.value (s.owning None n at)) ts l s h e some = rw (some_left l some) (keys_there extra n.keys _ ts e)
-result_type_decl extra (s.value (s.owning (Some ss) n at)) ts l s h e some = rw (some_left l some) (take_states extra ss (named ∷ behind_result_type extra (block (wider extra).depth ∷ decls (one_less l) ∷ s)) _ h ∙ take_named extra n _ ts e)
+result_type_decl extra (s.value (s.owning (Some ss) n at)) ts l s h e some = rw (some_left l some) (take_states extra ss (named ∷ following_result_type extra (block (wider extra).depth ∷ decls (one_less l) ∷ s)) _ h ∙ take_named extra n _ ts e)
 result_type_decl extra (s.value (s.guarded k n)) ts l s h e some = rw (some_left l some) (take_named extra n _ ts e)
 result_type_decl extra (s.value (s.plain n)) ts l s h e some = rw (some_left l some) (plain_keys extra n.keys _ ts e)
 
@@ -202,7 +202,7 @@ take_clause extra (Some (x ∷ xs)) m s rest h e =
     listed_entry extra x (further_then entry_then mark.CloseBracket xs (t.sign m ∷ rest)) s ∙ take_some extra entry_then an_entry IsEntry mark.CloseBracket refl (entry_comma extra) (entry_bracket extra) (x ∷ xs) s (t.sign m ∷ rest) tt h
 
 head_tail : (extra : Bounds) (h : Head) (m : Mark) (s : List Symbol) (rest : List Token) → IsHead (wider extra) h → after (wider extra) (t.sign m ∷ rest) (clause ∷ s) ≡ after (wider extra) (t.sign m ∷ rest) s
-    → after (wider extra) (name_then h.name (t.sign mark.OpenParen ∷ listed_then parameter_then mark.CloseParen h.parameters (clause_then h.clause (t.sign m ∷ rest)))) (behind_result_type extra s) ≡ after (wider extra) (t.sign m ∷ rest) s
+    → after (wider extra) (name_then h.name (t.sign mark.OpenParen ∷ listed_then parameter_then mark.CloseParen h.parameters (clause_then h.clause (t.sign m ∷ rest)))) (following_result_type extra s) ≡ after (wider extra) (t.sign m ∷ rest) s
 head_tail extra h m s rest i e = take_parameters extra h.parameters (clause ∷ s) _ i.parameters i.few ∙ take_clause extra h.clause m s rest i.clause e
 
 -- ---- cases

@@ -13,12 +13,12 @@ use Rattle.vlt_syntax.specs.Tree as s
 use Rattle.vlt_syntax.specs.Tree.{Expr}
 use Rattle.vlt_syntax.specs.Spelling.{expr_then, sign_of, operator_of}
 use Rattle.vlt_syntax.specs.Grammar.{BindsFrom, depth, level, IsExpr, Bounds}
-use Rattle.vlt_automaton.specs.Automaton.{Pending, level_from, right_of, prefixed, Symbol, an_expr, thing, listed, further, operand, operations, behind_name, close_group, end_expr, behind_operand, behind_variable, whole_depth, whole_expr, start_operand, Reaction, next_after, step_behind, climb, climb_by, if_deeper}
+use Rattle.vlt_automaton.specs.Automaton.{Pending, level_from, right_of, prefixed, Symbol, an_expr, thing, listed, further, operand, operations, following_name, close_group, end_expr, after_operand, after_variable, whole_depth, whole_expr, start_operand, Reaction, next_after, step_after, climb, climb_by, if_deeper}
 use Rattle.vlt_syntax_laws.proofs.After.{after, onward}
 use Rattle.vlt_syntax_laws.proofs.Takes.{followed_settled, IsNoSkip, kept}
 use Rattle.vlt_syntax_laws.proofs.Wider.{wider}
 
--- What may come behind an expression whose outermost operator binds from this level: no dot, and no operator that binds more tightly.
+-- What may come after an expression whose outermost operator binds from this level: no dot, and no operator that binds more tightly.
 abbrev pub weaker : ℕ → Option Op → Bool
 weaker m None = true
 weaker m (Some o) = nat_lt (level o) (suc m)
@@ -32,8 +32,8 @@ abbrev pub ends : ℕ → List Token → Bool
 ends m [] = false
 ends m (x ∷ xs) = is_end m x
 
--- a name with no dot behind it is an operand as any other
-no_dot : (extra : Bounds) (m d : ℕ) (fs : List Pending) (s : List Symbol) (rest : List Token) → ends m rest ≡ true → after (wider extra) rest (behind_name d fs ∷ s) ≡ after (wider extra) rest (operations d fs ∷ s)
+-- a name with no dot after it is an operand as any other
+no_dot : (extra : Bounds) (m d : ℕ) (fs : List Pending) (s : List Symbol) (rest : List Token) → ends m rest ≡ true → after (wider extra) rest (following_name d fs ∷ s) ≡ after (wider extra) rest (operations d fs ∷ s)
 no_dot extra m d fs s [] e = absurd cc
 no_dot extra m d fs s (t.name n ∷ rest) e = refl
 no_dot extra m d fs s (t.tick n ∷ rest) e = refl
@@ -42,13 +42,13 @@ no_dot extra m d fs s (t.keyword n ∷ rest) e = refl
 no_dot extra m d fs s (t.sign mark.Dot ∷ rest) e = absurd cc
 no_dot extra m d fs s (t.sign k ∷ rest) e = refl
 
-variable_ends : (extra : Bounds) (m d : ℕ) (fs : List Pending) (s : List Symbol) (rest : List Token) → ends m rest ≡ true → after (wider extra) rest (behind_variable d fs ∷ s) ≡ after (wider extra) rest (behind_operand d fs ∷ s)
+variable_ends : (extra : Bounds) (m d : ℕ) (fs : List Pending) (s : List Symbol) (rest : List Token) → ends m rest ≡ true → after (wider extra) rest (after_variable d fs ∷ s) ≡ after (wider extra) rest (after_operand d fs ∷ s)
 variable_ends extra m d [] s rest e = no_dot extra m d [] s rest e
 variable_ends extra m d (prefixed ∷ fs) s rest e = variable_ends extra m (suc d) fs s rest e
 variable_ends extra m d (level_from l r ∷ fs) s rest e = no_dot extra m d _ s rest e
 variable_ends extra m d (right_of l r a ∷ fs) s rest e = no_dot extra m d _ s rest e
 
--- behind the right operand of an operator, where no operator comes that binds more tightly, both are one operand
+-- after the right operand of an operator, where no operator comes that binds more tightly, both are one operand
 climbs : (m h l least room left d : ℕ) (fs : List Pending) → nat_lt h (suc m) ≡ true → m ≤ l
     → climb h d (level_from (suc l) (room - 1) ∷ right_of least room left ∷ fs) ≡ climb h (suc (max left d)) (level_from least room ∷ fs)
 climbs m h l least room left d fs e le =
@@ -72,7 +72,7 @@ joined extra m l least room left d fs s (t.tick n ∷ rest) e le = refl
 joined extra m l least room left d fs s (t.number n ∷ rest) e le = refl
 joined extra m l least room left d fs s (t.keyword n ∷ rest) e le = refl
 joined extra m l least room left d fs s (t.sign k ∷ rest) e le =
-    ap (λ (r : Reaction). onward (after (wider extra) rest) (next_after r s (λ u. step_behind (wider extra) (whole_depth (suc (max left d)) fs) s (t.sign k)))) (climbs_by m l least room left d fs (operator_of k) (end_weaker m k e) le)
+    ap (λ (r : Reaction). onward (after (wider extra) rest) (next_after r s (λ u. step_after (wider extra) (whole_depth (suc (max left d)) fs) s (t.sign k)))) (climbs_by m l least room left d fs (operator_of k) (end_weaker m k e) le)
 
 -- ---- operators
 
@@ -124,7 +124,7 @@ raised (s.binary o l r at) h = (h.0, (binary_low o h.0).0, h.2, h.3)
 
 -- ---- operands and expressions
 
-dotted : (extra : Bounds) (d : ℕ) (fs : List Pending) (s : List Symbol) (f : List ℕ) (rest : List Token) → after (wider extra) (t.sign mark.Dot ∷ t.name f ∷ rest) (behind_variable d fs ∷ s) ≡ after (wider extra) rest (behind_operand d fs ∷ s)
+dotted : (extra : Bounds) (d : ℕ) (fs : List Pending) (s : List Symbol) (f : List ℕ) (rest : List Token) → after (wider extra) (t.sign mark.Dot ∷ t.name f ∷ rest) (after_variable d fs ∷ s) ≡ after (wider extra) rest (after_operand d fs ∷ s)
 dotted extra d [] s f rest = refl
 dotted extra d (prefixed ∷ fs) s f rest = dotted extra (suc d) fs s f rest
 dotted extra d (level_from l r ∷ fs) s f rest = refl
@@ -156,7 +156,7 @@ depth_some (s.unary o e at) = omega arith
 depth_some (s.binary o l r at) = omega arith
 
 abbrev Operand : (extra : Bounds) → Expr → Type 0
-Operand extra e = (m room : ℕ) (fs : List Pending) (s : List Symbol) (rest : List Token) → BindsFrom 11 e → depth e ≤ room → ends m rest ≡ true → after (wider extra) (expr_then e rest) (operand room fs ∷ s) ≡ after (wider extra) rest (behind_operand (depth e) fs ∷ s)
+Operand extra e = (m room : ℕ) (fs : List Pending) (s : List Symbol) (rest : List Token) → BindsFrom 11 e → depth e ≤ room → ends m rest ≡ true → after (wider extra) (expr_then e rest) (operand room fs ∷ s) ≡ after (wider extra) rest (after_operand (depth e) fs ∷ s)
 
 abbrev Whole : (extra : Bounds) → Expr → Type 0
 Whole extra e = (m least room : ℕ) (fs : List Pending) (s : List Symbol) (rest : List Token) → BindsFrom m e → least ≤ m → depth e ≤ room → ends m rest ≡ true
@@ -250,7 +250,7 @@ as_listed extra (t.name n) rest s h = refl
 as_listed extra (t.number n) rest s h = refl
 as_listed extra (t.tick n) rest s h = absurd h
 
--- an expression of its own, where what comes behind it goes on with none
+-- an expression of its own, where what comes after it goes on with none
 pub take_expr : (extra : Bounds) (e : Expr) (s : List Symbol) (rest : List Token) → IsExpr (wider extra) e → ends 0 rest ≡ true → after (wider extra) (expr_then e rest) (thing an_expr ∷ s) ≡ after (wider extra) rest (operations (depth e) (whole_expr (wider extra)) ∷ end_expr ∷ s)
 take_expr extra e s rest h n =
     let b = begins e rest in

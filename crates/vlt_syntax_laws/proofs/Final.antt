@@ -6,7 +6,7 @@ use Rattle.vlt_syntax.specs.Tree.{Tree}
 use Rattle.vlt_syntax.specs.Lists.{each_then}
 use Rattle.vlt_syntax.specs.Spelling.{spelling, decl_then}
 use Rattle.vlt_syntax.specs.Grammar.{IsTree, Bounds}
-use Rattle.vlt_automaton.specs.Automaton.{Left, Symbol, may_end, decls, Reaction, take, skip, refuse, exceed, Next, to, next_after, step, step_behind, depth_read, reaction_behind}
+use Rattle.vlt_automaton.specs.Automaton.{Left, Symbol, may_end, decls, Reaction, take, skip, refuse, exceed, Next, to, next_after, step, step_after, depth_read, reaction_after}
 use Rattle.vlt_syntax_laws.proofs.After.{after}
 use Rattle.vlt_syntax_laws.proofs.Back.{Rest, Spells}
 use Rattle.vlt_syntax_laws.proofs.Whole.{Backs, parted, some_spelling}
@@ -25,10 +25,10 @@ settled_back extra d y s q K x c skip below b p e k = b (p e)
 settled_back extra d y s q K x c refuse below b p e k = absurd cc
 settled_back extra d y s q K x c (exceed n) below b p e k = absurd cc
 
-pub step_back : (extra : Bounds) (at : Span) (d : ℕ) (s q : List Symbol) (K : Rest) (x : Token) (c : List Token) → step_behind (wider extra) d s x ≡ to q → Spells extra 0 q K c → Spells extra d s K (x ∷ c)
+pub step_back : (extra : Bounds) (at : Span) (d : ℕ) (s q : List Symbol) (K : Rest) (x : Token) (c : List Token) → step_after (wider extra) d s x ≡ to q → Spells extra 0 q K c → Spells extra d s K (x ∷ c)
 step_back extra at d [] q K x c e k = absurd cc
 step_back extra at d (y ∷ s) q K x c e k =
-    settled_back extra d y s q K x c (reaction_behind (wider extra) d y x) (λ u. step_behind (wider extra) (depth_read y) s x) (backs extra at d y (λ n z. Spells extra n s K z) x c) (λ i. step_back extra at (depth_read y) s q K x c i k) e k
+    settled_back extra d y s q K x c (reaction_after (wider extra) d y x) (λ u. step_after (wider extra) (depth_read y) s x) (backs extra at d y (λ n z. Spells extra n s K z) x c) (λ i. step_back extra at (depth_read y) s q K x c i k) e k
 
 abbrev pub End : Rest
 End n ts = ts ≡ []

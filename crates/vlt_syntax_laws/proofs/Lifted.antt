@@ -13,7 +13,7 @@ use Rattle.vlt_syntax.specs.Tokens.{Token}
 use Rattle.vlt_syntax.specs.Spelling.{operator_of}
 use Rattle.vlt_syntax.specs.Grammar.{Bounds, level, language}
 use Rattle.vlt_syntax.specs.Refusals.{bound_of}
-use Rattle.vlt_automaton.specs.Automaton.{behind_fields, or_else, start_simple, start_result_type, react_behind_fields, Left, Thing, a_name, a_param, a_ty, a_key, a_case, a_parameter, an_entry, an_expr, an_init, a_result_type, a_simple, a_stmt, a_decl, Pending, level_from, right_of, prefixed, Symbol, tick, sign, keyword, thing, further, listed, enclosed, marked_name, states, at_states, named, behind_tracked, behind_type_name, operand, behind_name, operations, close_group, end_expr, owner, right, behind_right_name, returned, block, stmts, behind_stmt_name, otherwise, behind_else, arm, arms, entry_states, behind_entry_at, arrow_states, clause, head, further_states, fields, decls, Reaction, take, skip, refuse, exceed, with_behind, is_sign, is_keyword, is_name, is_tick, start_name, start_tick, start_states, start_key, start_ty, react_tracked, react_type_name, behind_operand, behind_variable, whole_depth, if_deeper, start_operand, climb, climb_by, react_operations, whole_expr, start_expr, start_build, start_right, react_right_name, react_returned, enter, declaration_tail, start_stmt, react_stmt_name, start_block, start_arm, start_head, head_rest, start_entry, start_decl, within_count, start_thing, less, one_more, one_more_state, reaction, Next, to, unexpected, over, depth_read, reaction_behind, next_after, step_behind, behind_if, parameters_left, lowest}
+use Rattle.vlt_automaton.specs.Automaton.{after_fields, or_else, start_simple, start_result_type, react_after_fields, Left, Thing, a_name, a_param, a_ty, a_key, a_case, a_parameter, an_entry, an_expr, an_init, a_result_type, a_simple, a_stmt, a_decl, Pending, level_from, right_of, prefixed, Symbol, tick, sign, keyword, thing, further, listed, enclosed, marked_name, states, at_states, named, after_tracked, after_type_name, operand, following_name, operations, close_group, end_expr, owner, right, after_right_name, returned, block, stmts, after_stmt_name, otherwise, following_else, arm, arms, entry_states, after_entry_at, arrow_states, clause, head, further_states, fields, decls, Reaction, take, skip, refuse, exceed, with_after, is_sign, is_keyword, is_name, is_tick, start_name, start_tick, start_states, start_key, start_ty, react_tracked, react_type_name, after_operand, after_variable, whole_depth, if_deeper, start_operand, climb, climb_by, react_operations, whole_expr, start_expr, start_build, start_right, react_right_name, react_returned, enter, declaration_tail, start_stmt, react_stmt_name, start_block, start_arm, start_head, head_rest, start_entry, start_decl, within_count, start_thing, less, one_more, one_more_state, reaction, Next, to, unexpected, over, depth_read, reaction_after, next_after, step_after, following_if, parameters_left, lowest}
 use Rattle.vlt_syntax_laws.proofs.Wider.{wider}
 use Rattle.vlt_syntax_laws.proofs.After.{IsTo}
 
@@ -60,13 +60,13 @@ lift e (further k m left) = further (lift_thing e k) m (on_left (lift_left e) le
 lift e (listed k m left) = listed (lift_thing e k) m (on_left (lift_first e) left)
 lift e (enclosed k o m left) = enclosed (lift_thing e k) o m (on_left (lift_first e) left)
 lift e (operand room fs) = operand (room + e.depth) (lift_pending e fs)
-lift e (behind_name d fs) = behind_name d (lift_pending e fs)
+lift e (following_name d fs) = following_name d (lift_pending e fs)
 lift e (operations d fs) = operations d (lift_pending e fs)
 lift e (close_group fs) = close_group (lift_pending e fs)
 lift e (block room) = block (lift_room e room)
 lift e (stmts room) = stmts (room + e.depth)
 lift e (otherwise room) = otherwise (lift_room e room)
-lift e (behind_else room) = behind_else (lift_room e room)
+lift e (following_else room) = following_else (lift_room e room)
 lift e (arm room) = arm (lift_room e room)
 lift e (arms room) = arms (lift_room e room)
 lift e (further_states left) = further_states (lift_left e left)
@@ -79,20 +79,20 @@ lift e (marked_name m) = marked_name m
 lift e states = states
 lift e at_states = at_states
 lift e named = named
-lift e behind_tracked = behind_tracked
-lift e behind_type_name = behind_type_name
+lift e after_tracked = after_tracked
+lift e after_type_name = after_type_name
 lift e end_expr = end_expr
 lift e owner = owner
 lift e right = right
-lift e behind_right_name = behind_right_name
+lift e after_right_name = after_right_name
 lift e returned = returned
-lift e behind_stmt_name = behind_stmt_name
+lift e after_stmt_name = after_stmt_name
 lift e entry_states = entry_states
-lift e behind_entry_at = behind_entry_at
+lift e after_entry_at = after_entry_at
 lift e arrow_states = arrow_states
 lift e clause = clause
 lift e head = head
-lift e behind_fields = behind_fields
+lift e after_fields = after_fields
 
 abbrev pub lifts : Bounds → List Symbol → List Symbol
 lifts e = map (lift e)
@@ -148,17 +148,17 @@ either : (n : ℕ) (e : Bounds) (b : Bool) (x y z w : Reaction) → Lifted n e x
 either n e true x y z w p q = p
 either n e false x y z w p q = q
 
-taken_then : (r : Reaction) (ys : List Symbol) → IsTaken r → IsTaken (with_behind r ys)
+taken_then : (r : Reaction) (ys : List Symbol) → IsTaken r → IsTaken (with_after r ys)
 taken_then (take xs) ys h = tt
 taken_then skip ys h = absurd h
 taken_then refuse ys h = absurd h
 taken_then (exceed n) ys h = absurd h
 
-then_lifted : (n : ℕ) (e : Bounds) (r z : Reaction) (ys zs : List Symbol) → Lifted n e r z → zs ≡ lifts e ys → list_all is_good ys ≡ true → Lifted n e (with_behind r ys) (with_behind z zs)
-then_lifted n e (take xs) z ys zs p same q = (ap (λ r. with_behind r zs) p.0 ∙ ap (λ us. take (lifts e xs ++ us)) same ∙ ap take (sym (lifts_append e xs ys)), all_good xs ys p.1 q)
-then_lifted n e skip z ys zs p same q = ap (λ r. with_behind r zs) p
-then_lifted n e refuse z ys zs p same q = ap (λ r. with_behind r zs) p
-then_lifted n e (exceed k) z ys zs p same q = (p.0, λ none. ap (λ r. with_behind r zs) (p.1 none), λ wide. taken_then z zs (p.2 wide))
+then_lifted : (n : ℕ) (e : Bounds) (r z : Reaction) (ys zs : List Symbol) → Lifted n e r z → zs ≡ lifts e ys → list_all is_good ys ≡ true → Lifted n e (with_after r ys) (with_after z zs)
+then_lifted n e (take xs) z ys zs p same q = (ap (λ r. with_after r zs) p.0 ∙ ap (λ us. take (lifts e xs ++ us)) same ∙ ap take (sym (lifts_append e xs ys)), all_good xs ys p.1 q)
+then_lifted n e skip z ys zs p same q = ap (λ r. with_after r zs) p
+then_lifted n e refuse z ys zs p same q = ap (λ r. with_after r zs) p
+then_lifted n e (exceed k) z ys zs p same q = (p.0, λ none. ap (λ r. with_after r zs) (p.1 none), λ wide. taken_then z zs (p.2 wide))
 
 either_lifted : (n : ℕ) (e : Bounds) (r z other more : Reaction) → Lifted n e r z → Lifted n e other more → Lifted n e (or_else r other) (or_else z more)
 either_lifted n e (take xs) z other more p q = (ap (λ r. or_else r more) p.0, p.1)
@@ -285,25 +285,25 @@ whole_more d (prefixed ∷ fs) = let more = whole_more (suc d) fs in omega arith
 whole_more d (level_from least room ∷ fs) = whole_more d fs
 whole_more d (right_of least room left ∷ fs) = let more = whole_more (suc (max left d)) fs in omega arith
 
-operand_lifted : (e : Bounds) (d : ℕ) (fs : List Pending) → behind_operand d (lift_pending e fs) ≡ lift e (behind_operand d fs)
+operand_lifted : (e : Bounds) (d : ℕ) (fs : List Pending) → after_operand d (lift_pending e fs) ≡ lift e (after_operand d fs)
 operand_lifted e d [] = refl
 operand_lifted e d (prefixed ∷ fs) = operand_lifted e (suc d) fs
 operand_lifted e d (level_from least room ∷ fs) = refl
 operand_lifted e d (right_of least room left ∷ fs) = refl
 
-operand_good : (d : ℕ) (fs : List Pending) → is_good (behind_operand d fs) ≡ true
+operand_good : (d : ℕ) (fs : List Pending) → is_good (after_operand d fs) ≡ true
 operand_good d [] = refl
 operand_good d (prefixed ∷ fs) = operand_good (suc d) fs
 operand_good d (level_from least room ∷ fs) = refl
 operand_good d (right_of least room left ∷ fs) = refl
 
-variable_lifted : (e : Bounds) (d : ℕ) (fs : List Pending) → behind_variable d (lift_pending e fs) ≡ lift e (behind_variable d fs)
+variable_lifted : (e : Bounds) (d : ℕ) (fs : List Pending) → after_variable d (lift_pending e fs) ≡ lift e (after_variable d fs)
 variable_lifted e d [] = refl
 variable_lifted e d (prefixed ∷ fs) = variable_lifted e (suc d) fs
 variable_lifted e d (level_from least room ∷ fs) = refl
 variable_lifted e d (right_of least room left ∷ fs) = refl
 
-variable_good : (d : ℕ) (fs : List Pending) → is_good (behind_variable d fs) ≡ true
+variable_good : (d : ℕ) (fs : List Pending) → is_good (after_variable d fs) ≡ true
 variable_good d [] = refl
 variable_good d (prefixed ∷ fs) = variable_good (suc d) fs
 variable_good d (level_from least room ∷ fs) = refl
@@ -393,7 +393,7 @@ room_some room extra h = omega arith
 stmt_lifted : (n room : ℕ) (e : Bounds) (x : Token) → Lifted n e (start_stmt room x) (start_stmt (room + e.depth) x)
 stmt_lifted n room e (t.sign mark.OpenBrace) =
     enter_lifted n e room (room + e.depth) _ _ refl (λ h. ap (λ q. stmts q ∷ []) (let same : (room + e.depth) - 1 ≡ (room - 1) + e.depth = omega arith in same)) refl
-stmt_lifted n room e (t.keyword word.If) = enter_lifted n e room (room + e.depth) _ _ refl (λ h. ap (λ q. behind_if q) (sym (room_some room e.depth h))) refl
+stmt_lifted n room e (t.keyword word.If) = enter_lifted n e room (room + e.depth) _ _ refl (λ h. ap (λ q. following_if q) (sym (room_some room e.depth h))) refl
 stmt_lifted n room e (t.keyword word.While) =
     enter_lifted n e room (room + e.depth) _ _ refl (λ h. ap (λ q. sign mark.OpenParen ∷ thing an_expr ∷ sign mark.CloseParen ∷ block q ∷ []) (sym (room_some room e.depth h))) refl
 stmt_lifted n room e (t.keyword word.Switch) =
@@ -453,8 +453,8 @@ decl_lifted n e (t.keyword word.Variant) =
 decl_lifted n e (t.keyword word.Extern) = (refl, refl)
 decl_lifted n e x = then_lifted n e (start_head language x) _ (block language.depth ∷ []) _ (head_lifted n e x) refl refl
 
-behind_fields_lifted : (n : ℕ) (e : Bounds) (x : Token) → Same n e (react_behind_fields x)
-behind_fields_lifted n e x = either n e (is_keyword word.Release x) _ _ _ _ (refl, refl) (either n e (is_sign mark.CloseBrace x) _ _ _ _ (refl, refl) refl)
+after_fields_lifted : (n : ℕ) (e : Bounds) (x : Token) → Same n e (react_after_fields x)
+after_fields_lifted n e x = either n e (is_keyword word.Release x) _ _ _ _ (refl, refl) (either n e (is_sign mark.CloseBrace x) _ _ _ _ (refl, refl) refl)
 
 -- ---- lists
 
@@ -497,7 +497,7 @@ ty_stays (t.keyword word.Tracked) = tt
 ty_stays (t.name text) = tt
 ty_stays _ = tt
 
-followed_stays : (r : Reaction) (ys : List Symbol) → NoExceed r → NoExceed (with_behind r ys)
+followed_stays : (r : Reaction) (ys : List Symbol) → NoExceed r → NoExceed (with_after r ys)
 followed_stays (take xs) ys h = tt
 followed_stays skip ys h = tt
 followed_stays refuse ys h = tt
@@ -522,7 +522,7 @@ decl_stays x =
 -- how deep is what the symbol has read of an expression
 abbrev pub deepness : Symbol → ℕ
 deepness (operations d fs) = whole_depth d fs
-deepness (behind_name d fs) = whole_depth d fs
+deepness (following_name d fs) = whole_depth d fs
 deepness _ = 1
 
 reaction_lifted : (n : ℕ) (e : Bounds) (y : Symbol) (x : Token) → 1 ≤ n → deepness y ≤ n → is_good y ≡ true → Lifted n e (reaction language y x) (reaction (wider e) (lift e y) x)
@@ -541,31 +541,31 @@ reaction_lifted n e (marked_name m) x one h p = either n e (is_sign m x) _ _ _ _
 reaction_lifted n e states x one h p = states_lifted n e x
 reaction_lifted n e at_states x one h p = either n e (is_sign mark.At x) _ _ _ _ (refl, refl) refl
 reaction_lifted n e named x one h p = then_lifted n e (start_name x) _ _ _ (name_lifted n e x) refl refl
-reaction_lifted n e behind_tracked x one h p = tracked_lifted n e x
-reaction_lifted n e behind_type_name x one h p = type_name_lifted n e x
+reaction_lifted n e after_tracked x one h p = tracked_lifted n e x
+reaction_lifted n e after_type_name x one h p = type_name_lifted n e x
 reaction_lifted n e (operand room fs) x one h p = start_lifted n room e fs x one
-reaction_lifted n e (behind_name d fs) x one h p = either n e (is_sign mark.Dot x) _ _ _ _ (refl, refl) (operations_lifted n d e fs x h)
+reaction_lifted n e (following_name d fs) x one h p = either n e (is_sign mark.Dot x) _ _ _ _ (refl, refl) (operations_lifted n d e fs x h)
 reaction_lifted n e (operations d fs) x one h p = operations_lifted n d e fs x h
 reaction_lifted n e (close_group fs) x one h p = refl
 reaction_lifted n e end_expr x one h p = refl
 reaction_lifted n e owner x one h p = either n e (is_sign mark.OpenParen x) _ _ _ _ (refl, refl) refl
 reaction_lifted n e right x one h p = right_lifted n e x one
-reaction_lifted n e behind_right_name x one h p = right_name_lifted n e x one
+reaction_lifted n e after_right_name x one h p = right_name_lifted n e x one
 reaction_lifted n e returned x one h p = returned_lifted n e x one
 reaction_lifted n e (block room) x one h p = block_lifted n room e x
 reaction_lifted n e (stmts room) x one h p =
     either n e (is_sign mark.CloseBrace x) _ _ _ _ (refl, refl) (then_lifted n e (start_stmt room x) _ _ _ (stmt_lifted n room e x) refl refl)
-reaction_lifted n e behind_stmt_name x one h p = stmt_name_lifted n e x
+reaction_lifted n e after_stmt_name x one h p = stmt_name_lifted n e x
 reaction_lifted n e (otherwise room) x one h p = either n e (is_keyword word.Else x) _ _ _ _ (refl, refl) refl
-reaction_lifted n e (behind_else room) x one h p =
+reaction_lifted n e (following_else room) x one h p =
     either n e (is_keyword word.If x) _ _ _ _
-    (enter_lifted n e (room - 1) (lift_room e room - 1) (behind_if (room - 1)) (behind_if (lift_room e room - 1)) (inside_same room e.depth)
-    (λ some. ap (λ q. behind_if q) (let same : lift_room e room - 1 ≡ lift_room e (room - 1) = omega arith in same)) refl)
+    (enter_lifted n e (room - 1) (lift_room e room - 1) (following_if (room - 1)) (following_if (lift_room e room - 1)) (inside_same room e.depth)
+    (λ some. ap (λ q. following_if q) (let same : lift_room e room - 1 ≡ lift_room e (room - 1) = omega arith in same)) refl)
     (block_lifted n room e x)
 reaction_lifted n e (arm room) x one h p = arm_lifted n room e x
 reaction_lifted n e (arms room) x one h p = either n e (is_sign mark.CloseBrace x) _ _ _ _ (refl, refl) (then_lifted n e (start_arm room x) _ _ _ (arm_lifted n room e x) refl refl)
 reaction_lifted n e entry_states x one h p = either n e (is_sign mark.At x) _ _ _ _ (refl, refl) refl
-reaction_lifted n e behind_entry_at x one h p = either n e (is_sign mark.OpenParen x) _ _ _ _ (refl, refl) (then_lifted n e (start_states x) _ _ _ (states_lifted n e x) refl refl)
+reaction_lifted n e after_entry_at x one h p = either n e (is_sign mark.OpenParen x) _ _ _ _ (refl, refl) (then_lifted n e (start_states x) _ _ _ (states_lifted n e x) refl refl)
 reaction_lifted n e arrow_states x one h p = either n e (is_sign mark.Arrow x) _ _ _ _ (refl, refl) refl
 reaction_lifted n e clause x one h p = either n e (is_sign mark.OpenBracket x) _ _ _ _ (refl, refl) refl
 reaction_lifted n e head x one h p = head_lifted n e x
@@ -573,13 +573,13 @@ reaction_lifted n e (further_states left) x one h p =
     either n e (is_sign mark.CloseBrace x) _ _ _ _ (refl, refl)
     (either n e (is_sign mark.Comma x) _ _ _ _ (more_state_lifted n e left p) (either n e (is_sign mark.Less x) _ _ _ _ (more_state_lifted n e left p) refl))
 reaction_lifted n e (fields left) x one h p =
-    either_lifted n e _ _ _ _ (counted_lifted n e left (start_ty x) (start_ty x) _ _ (ty_stays x) p (ty_lifted n e x) (λ k is. refl) (λ l is. both _ true is refl)) (behind_fields_lifted n e x)
-reaction_lifted n e behind_fields x one h p = behind_fields_lifted n e x
+    either_lifted n e _ _ _ _ (counted_lifted n e left (start_ty x) (start_ty x) _ _ (ty_stays x) p (ty_lifted n e x) (λ k is. refl) (λ l is. both _ true is refl)) (after_fields_lifted n e x)
+reaction_lifted n e after_fields x one h p = after_fields_lifted n e x
 reaction_lifted n e (decls left) x one h p = counted_lifted n e left (start_decl language x) _ _ _ (decl_stays x) p (decl_lifted n e x) (λ k is. refl) (λ l is. both _ true is refl)
 
-pub behind_lifted : (n d : ℕ) (e : Bounds) (y : Symbol) (x : Token) → 1 ≤ n → deepness y ≤ n → is_good y ≡ true → Lifted n e (reaction_behind language d y x) (reaction_behind (wider e) d (lift e y) x)
-behind_lifted n d e (close_group fs) x one h p = either n e (is_sign mark.CloseParen x) _ _ _ _ (one_symbol e _ _ (operand_lifted e (suc d) fs) (operand_good (suc d) fs)) refl
-behind_lifted n d e y x one h p = reaction_lifted n e y x one h p
+pub after_lifted : (n d : ℕ) (e : Bounds) (y : Symbol) (x : Token) → 1 ≤ n → deepness y ≤ n → is_good y ≡ true → Lifted n e (reaction_after language d y x) (reaction_after (wider e) d (lift e y) x)
+after_lifted n d e (close_group fs) x one h p = either n e (is_sign mark.CloseParen x) _ _ _ _ (one_symbol e _ _ (operand_lifted e (suc d) fs) (operand_good (suc d) fs)) refl
+after_lifted n d e y x one h p = reaction_lifted n e y x one h p
 
 -- ---- steps
 
@@ -598,7 +598,7 @@ one_deepest (y ∷ s) = let h = one_deepest s in omega arith
 
 same_read : (e : Bounds) (y : Symbol) → depth_read (lift e y) ≡ depth_read y
 same_read e (operations d fs) = whole_lifted e d fs
-same_read e (behind_name d fs) = whole_lifted e d fs
+same_read e (following_name d fs) = whole_lifted e d fs
 same_read e _ = refl
 
 first_good : (a b : Bool) → (a && b) ≡ true → a ≡ true
@@ -622,11 +622,11 @@ settled_lifted n e skip z s below other p good h = subst (λ r. LiftedNext n e (
 settled_lifted n e refuse z s below other p good h = ap (λ r. next_after r (lifts e s) other) p
 settled_lifted n e (exceed k) z s below other p good h = (p.0, λ none. ap (λ r. next_after r (lifts e s) other) (p.1 none), λ wide. settled_to z (lifts e s) other (p.2 wide))
 
-pub step_lifted : (n d : ℕ) (e : Bounds) (s : List Symbol) (x : Token) → deepest s ≤ n → list_all is_good s ≡ true → LiftedNext n e (step_behind language d s x) (step_behind (wider e) d (lifts e s) x)
+pub step_lifted : (n d : ℕ) (e : Bounds) (s : List Symbol) (x : Token) → deepest s ≤ n → list_all is_good s ≡ true → LiftedNext n e (step_after language d s x) (step_after (wider e) d (lifts e s) x)
 step_lifted n d e [] x h good = refl
 step_lifted n d e (y ∷ s) x h good =
     let one = one_deepest s in
     let there = rest_good (is_good y) (list_all is_good s) good in
-    settled_lifted n e (reaction_behind language d y x) (reaction_behind (wider e) d (lift e y) x) s _ _
-    (behind_lifted n d e y x (omega arith) (omega arith) (first_good (is_good y) (list_all is_good s) good)) there
-    (subst (λ k. LiftedNext n e (step_behind language (depth_read y) s x) (step_behind (wider e) k (lifts e s) x)) (sym (same_read e y)) (step_lifted n (depth_read y) e s x (omega arith) there))
+    settled_lifted n e (reaction_after language d y x) (reaction_after (wider e) d (lift e y) x) s _ _
+    (after_lifted n d e y x (omega arith) (omega arith) (first_good (is_good y) (list_all is_good s) good)) there
+    (subst (λ k. LiftedNext n e (step_after language (depth_read y) s x) (step_after (wider e) k (lifts e s) x)) (sym (same_read e y)) (step_lifted n (depth_read y) e s x (omega arith) there))

@@ -42,7 +42,7 @@ data Held : Type 0 where
   group_at : Held
 
 data Mode : Type 0 where
-  wanting : Mode
+  expecting : Mode
   having : Expr → Mode
   naming : List ℕ → Mode
   dotting : List ℕ → Mode
@@ -68,10 +68,10 @@ pushed o (group_at ∷ gs) e = None
 pushed o (prefix_at p ∷ gs) e = pushed o gs (s.unary p e no_span)
 pushed o (level_at least ∷ gs) e =
     if nat_lt (level o) least then pushed o gs e
-    else Some (record { held = level_at (suc (level o)) ∷ right_at least o e ∷ gs; mode = wanting })
+    else Some (record { held = level_at (suc (level o)) ∷ right_at least o e ∷ gs; mode = expecting })
 pushed o (right_at least p a ∷ gs) e =
     if nat_lt (level o) least then pushed o gs (s.binary p a e no_span)
-    else Some (record { held = level_at (suc (level o)) ∷ right_at least o (s.binary p a e no_span) ∷ gs; mode = wanting })
+    else Some (record { held = level_at (suc (level o)) ∷ right_at least o (s.binary p a e no_span) ∷ gs; mode = expecting })
 
 abbrev whole : List Held → Expr → List Token → Read
 whole [] e ts = done e ts
@@ -91,23 +91,23 @@ abbrev pushed_by : Option Op → List Held → Expr → Option Pushed
 pushed_by None gs e = None
 pushed_by (Some o) gs e = pushed o gs e
 
-abbrev behind : Later → Token → List Token → List Held → Expr → Read
-behind later (t.sign mark.CloseParen) ts gs e = goes later (closed gs e) (whole gs e (t.sign mark.CloseParen ∷ ts))
-behind later (t.sign m) ts gs e = goes later (pushed_by (operator_of m) gs e) (whole gs e (t.sign m ∷ ts))
-behind later x ts gs e = whole gs e (x ∷ ts)
+abbrev following : Later → Token → List Token → List Held → Expr → Read
+following later (t.sign mark.CloseParen) ts gs e = goes later (closed gs e) (whole gs e (t.sign mark.CloseParen ∷ ts))
+following later (t.sign m) ts gs e = goes later (pushed_by (operator_of m) gs e) (whole gs e (t.sign m ∷ ts))
+following later x ts gs e = whole gs e (x ∷ ts)
 
 abbrev move : Later → Token → List Token → List Held → Mode → Read
-move later (t.number z) ts gs wanting = later gs (having (s.number z no_span))
-move later (t.keyword word.True) ts gs wanting = later gs (having (s.true no_span))
-move later (t.keyword word.False) ts gs wanting = later gs (having (s.false no_span))
-move later (t.name n) ts gs wanting = later gs (naming n)
-move later (t.sign mark.OpenParen) ts gs wanting = later (level_at 2 ∷ group_at ∷ gs) wanting
-move later (t.sign mark.Minus) ts gs wanting = later (prefix_at op.Negate ∷ gs) wanting
-move later (t.sign mark.Not) ts gs wanting = later (prefix_at op.Not ∷ gs) wanting
-move later x ts gs wanting = stuck
-move later x ts gs (having e) = behind later x ts gs e
+move later (t.number z) ts gs expecting = later gs (having (s.number z no_span))
+move later (t.keyword word.True) ts gs expecting = later gs (having (s.true no_span))
+move later (t.keyword word.False) ts gs expecting = later gs (having (s.false no_span))
+move later (t.name n) ts gs expecting = later gs (naming n)
+move later (t.sign mark.OpenParen) ts gs expecting = later (level_at 2 ∷ group_at ∷ gs) expecting
+move later (t.sign mark.Minus) ts gs expecting = later (prefix_at op.Negate ∷ gs) expecting
+move later (t.sign mark.Not) ts gs expecting = later (prefix_at op.Not ∷ gs) expecting
+move later x ts gs expecting = stuck
+move later x ts gs (having e) = following later x ts gs e
 move later (t.sign mark.Dot) ts gs (naming n) = later gs (dotting n)
-move later x ts gs (naming n) = behind later x ts gs (s.variable (bare_name n))
+move later x ts gs (naming n) = following later x ts gs (s.variable (bare_name n))
 move later (t.name f) ts gs (dotting n) = later gs (having (s.field (bare_name n) (bare_name f)))
 move later x ts gs (dotting n) = stuck
 
@@ -132,7 +132,7 @@ prefix_joined o gs e (t.sign k ∷ rest) = by_operator (operator_of k) where
   by_operator (Some p) = refl
 prefix_joined o gs e (x ∷ rest) = refl
 
--- behind the right operand of an operator, where none comes that binds more tightly
+-- after the right operand of an operator, where none comes that binds more tightly
 joined_by : (m l least : ℕ) (o : Op) (a e : Expr) (gs : List Held) (p : Option Op) → weaker m p ≡ true → m ≤ l → pushed_by p (level_at (suc l) ∷ right_at least o a ∷ gs) e ≡ pushed_by p (level_at least ∷ gs) (s.binary o a e no_span)
 joined_by m l least o a e gs None w le = refl
 joined_by m l least o a e gs (Some p) w le = let low : nat_lt (level p) (suc l) ≡ true = grind (arith, nat_tests) in rw low refl
@@ -145,7 +145,7 @@ joined m l least o a e gs (t.sign k ∷ rest) n le =
     ap (λ p. goes (read rest) p (whole gs (s.binary o a e no_span) (t.sign k ∷ rest))) (joined_by m l least o a e gs (operator_of k) (end_weaker m k n) le)
 joined m l least o a e gs (x ∷ rest) n le = refl
 
-prefix_read : (o : Op) (gs : List Held) (rest : List Token) → (row_of o).arity ≡ 1 → read (t.sign (sign_of o) ∷ rest) gs wanting ≡ read rest (prefix_at o ∷ gs) wanting
+prefix_read : (o : Op) (gs : List Held) (rest : List Token) → (row_of o).arity ≡ 1 → read (t.sign (sign_of o) ∷ rest) gs expecting ≡ read rest (prefix_at o ∷ gs) expecting
 prefix_read op.Negate gs rest h = refl
 prefix_read op.Not gs rest h = refl
 prefix_read o gs rest h = absurd (omega arith)
@@ -157,7 +157,7 @@ sign_read op.Not gs e rest h = absurd (omega arith)
 sign_read o gs e rest h = refl
 
 binary_read : (o : Op) (least : ℕ) (gs : List Held) (e : Expr) (rest : List Token) → (row_of o).arity ≡ 2 → least ≤ level o
-    → read (t.sign (sign_of o) ∷ rest) (level_at least ∷ gs) (having e) ≡ read rest (level_at (suc (level o)) ∷ right_at least o e ∷ gs) wanting
+    → read (t.sign (sign_of o) ∷ rest) (level_at least ∷ gs) (having e) ≡ read rest (level_at (suc (level o)) ∷ right_at least o e ∷ gs) expecting
 binary_read o least gs e rest h le =
     let f : nat_lt (level o) least ≡ false = grind (arith, nat_tests) in
     sign_read o (level_at least ∷ gs) e rest h ∙ rw f refl
@@ -173,10 +173,10 @@ from_two (s.unary o e at) h = (h.0, (let k = unary_high o h.0 in omega arith), h
 from_two (s.binary o l r at) h = (h.0, (binary_low o h.0).0, h.2, h.3)
 
 abbrev Operand : Expr → Type 0
-Operand e = (m : ℕ) (gs : List Held) (rest : List Token) → BindsFrom 11 e → ends m rest ≡ true → read (expr_then e rest) gs wanting ≡ read rest gs (having (bare e))
+Operand e = (m : ℕ) (gs : List Held) (rest : List Token) → BindsFrom 11 e → ends m rest ≡ true → read (expr_then e rest) gs expecting ≡ read rest gs (having (bare e))
 
 abbrev Whole : Expr → Type 0
-Whole e = (m least : ℕ) (gs : List Held) (rest : List Token) → BindsFrom m e → least ≤ m → ends m rest ≡ true → read (expr_then e rest) (level_at least ∷ gs) wanting ≡ read rest (level_at least ∷ gs) (having (bare e))
+Whole e = (m least : ℕ) (gs : List Held) (rest : List Token) → BindsFrom m e → least ≤ m → ends m rest ≡ true → read (expr_then e rest) (level_at least ∷ gs) expecting ≡ read rest (level_at least ∷ gs) (having (bare e))
 
 reads : (e : Expr) → Operand e × Whole e
 reads (s.number z at) = (λ m gs rest b n. refl, λ m least gs rest b le n. refl)
@@ -215,14 +215,14 @@ ended e (t.sign mark.Dot ∷ rest) n = absurd cc
 ended e (t.sign k ∷ rest) n = ended_by e k rest (operator_of k) refl (end_weaker 0 k n)
 ended e (x ∷ rest) n = refl
 
-expr_read : (e : Expr) (rest : List Token) → BindsFrom 0 e → ends 0 rest ≡ true → read (expr_then e rest) (level_at 2 ∷ []) wanting ≡ done (bare e) rest
+expr_read : (e : Expr) (rest : List Token) → BindsFrom 0 e → ends 0 rest ≡ true → read (expr_then e rest) (level_at 2 ∷ []) expecting ≡ done (bare e) rest
 expr_read e rest b n = (reads e).1 2 2 [] rest (from_two e b) (omega arith) (ends_more 0 2 rest n (omega arith)) ∙ ended (bare e) rest n
 
 both_are : (e f : Expr) (r q : List Token) → done e r ≡ done f q → (e ≡ f) × (r ≡ q)
 both_are e f r q h = (cc, cc)
 
 bare_alike : (e f : Expr) (r q : List Token) → BindsFrom 0 e → BindsFrom 0 f → ends 0 r ≡ true → ends 0 q ≡ true → expr_then e r ≡ expr_then f q → (bare e ≡ bare f) × (r ≡ q)
-bare_alike e f r q b c n m h = both_are _ _ r q (sym (expr_read e r b n) ∙ ap (λ ts. read ts (level_at 2 ∷ []) wanting) h ∙ expr_read f q c m)
+bare_alike e f r q b c n m h = both_are _ _ r q (sym (expr_read e r b n) ∙ ap (λ ts. read ts (level_at 2 ∷ []) expecting) h ∙ expr_read f q c m)
 
 -- a place hangs on no span that was there before
 same_bare : (e : Expr) → expr_at (bare e) ≡ expr_at e

@@ -33,7 +33,7 @@ one_field x y r q p o h i e =
     let k = one_at_states x.states y.states (t.sign mark.Semicolon ∷ r) (t.sign mark.Semicolon ∷ q) p.1 o.1 (λ c f. cc) (λ c f. cc) n.1 in
     (three (λ f g h. with_span (without_tokens (λ ty name states at. let z : Field = record { ty = ty; name = name; states = states; at = at } in z) ⊛ f ⊛ g ⊛ h ◂ 1)) a.0 n.0 k.0, cc)
 
--- what comes behind the fields of a struct
+-- what comes after the fields of a struct
 abbrev tail : Option States → List Token → List Token
 tail x r = release_then x (t.sign mark.CloseBrace ∷ r)
 
@@ -178,12 +178,12 @@ one_clause (Some x) (Some y) r q p o h i e =
     let a = one_listed entry_at entry_then IsEntry EndsEntry mark.CloseBracket one_entry (λ c. ((λ k f. cc), (λ k f. cc))) (λ c. ((λ k f. cc), (λ k f. cc))) (λ c. cc) (λ x r p. no_bracket x r) x y r q p o cc in
     (ap (λ f. without_tokens (λ z. Some z) ◂ 1 ⊛ f) a.0, a.1)
 
-abbrev behind_result_type : Head → List Token → List Token
-behind_result_type h r = name_then h.name (t.sign mark.OpenParen ∷ listed_then parameter_then mark.CloseParen h.parameters (clause_then h.clause r))
+abbrev following_result_type : Head → List Token → List Token
+following_result_type h r = name_then h.name (t.sign mark.OpenParen ∷ listed_then parameter_then mark.CloseParen h.parameters (clause_then h.clause r))
 
 one_head : (b : Bounds) (x y : Head) (r q : List Token) → IsHead b x → IsHead b y → NoSign mark.OpenBracket r → NoSign mark.OpenBracket q → head_then x r ≡ head_then y q → Same head_at x y r q
 one_head b x y r q p o h i e =
-    let a = one_result_type x.result_type y.result_type (behind_result_type x r) (behind_result_type y q) p.result_type o.result_type ((λ c f. cc), (λ c f. cc)) ((λ c f. cc), (λ c f. cc)) e in
+    let a = one_result_type x.result_type y.result_type (following_result_type x r) (following_result_type y q) p.result_type o.result_type ((λ c f. cc), (λ c f. cc)) ((λ c f. cc), (λ c f. cc)) e in
     let n = one_name x.name y.name (t.sign mark.OpenParen ∷ listed_then parameter_then mark.CloseParen x.parameters (clause_then x.clause r)) (t.sign mark.OpenParen ∷ listed_then parameter_then mark.CloseParen y.parameters (clause_then y.clause q)) tt tt tt tt a.1 in
     let m = one_listed parameter_at parameter_then IsParameter Anything mark.CloseParen one_parameter (λ c. tt) (λ c. tt) (λ c. cc) (λ z u g. no_closing z.ty _) x.parameters y.parameters (clause_then x.clause r) (clause_then y.clause q) p.parameters o.parameters cc in
     let k = one_clause x.clause y.clause r q p.clause o.clause h i m.1 in (

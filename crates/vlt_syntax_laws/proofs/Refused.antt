@@ -226,8 +226,8 @@ before_end asked ts i j goes stops = elim (nat_either i j) [
   | inr less ↦ absurd (stops (shorter asked (suc j) i ts less goes))
 ]
 
-at_or_behind : (i j : ℕ) → i ≤ j → (i < j) ⊎ (i ≡ j)
-at_or_behind i j h = elim (nat_either j i) [
+at_or_after : (i j : ℕ) → i ≤ j → (i < j) ⊎ (i ≡ j)
+at_or_after i j h = elim (nat_either j i) [
   | inl le ↦ inr (omega (arith, h, le))
   | inr less ↦ inl less
 ]
@@ -235,7 +235,7 @@ at_or_behind i j h = elim (nat_either j i) [
 -- what some tree of the language goes on with is refused by nothing before it
 decides_unexpected : (ts : List Token) (i : ℕ) → ((limit : ℕ) → Continues (within limit) (take i ts)) → IsUnexpectedAt ts i
     → (d : Cause) (j : ℕ) → IsRefusedAt d ts j → (i < j) ⊎ ((i ≡ j) × (0 ≤ number d))
-decides_unexpected ts i each here g.unexpected j there = elim (at_or_behind i j (before_end any_size ts i j here.1 there.2)) [
+decides_unexpected ts i each here g.unexpected j there = elim (at_or_after i j (before_end any_size ts i j here.1 there.2)) [
   | inl less ↦ inl less
   | inr same ↦ inr (same, omega arith)
 ]
@@ -246,7 +246,7 @@ decides_unexpected ts i each here (g.over m) j there =
 decides_over : (ts : List Token) (i n : ℕ) → ((limit : ℕ) → Continues (within limit) (take i ts)) → ((limit : ℕ) → limit ≢ n → Continues (within limit) (take (suc i) ts)) → IsOverLimitAt n ts i
     → (d : Cause) (j : ℕ) → IsRefusedAt d ts j → (i < j) ⊎ ((i ≡ j) × (n ≤ number d))
 decides_over ts i n each others here g.unexpected j there = inl (let le = before_end any_size ts (suc i) j here.1 there.2 in omega arith)
-decides_over ts i n each others here (g.over m) j there = elim (at_or_behind i j (before_end (within m) ts i j (each m) there.0.2)) [
+decides_over ts i n each others here (g.over m) j there = elim (at_or_after i j (before_end (within m) ts i j (each m) there.0.2)) [
   | inl less ↦ inl less
   | inr same ↦ inr (
     same,

@@ -11,7 +11,7 @@ use Rattle.vlt_syntax.specs.Tree.{Name, Ty, Expr, Init, Right, Returned, Stmt, B
 use Rattle.vlt_syntax.specs.Lists.{Each, further_then, listed_then, enclosed_then}
 use Rattle.vlt_syntax.specs.Spelling.{operator_of, name_then, expr_then, ty_then, right_then, init_then, sign_of, returned_then, stmt_then, block_then, else_then, stmts_then, arms_then}
 use Rattle.vlt_syntax.specs.Grammar.{IsExpr, IsInit, IsTy, IsRight, IsReturned, IsStmt, IsBlock, IsIf, IsElse, AreStmts, AreArms, IsSomeArm, Bounds, level}
-use Rattle.vlt_automaton.specs.Automaton.{Symbol, an_expr, an_init, a_name, thing, further, listed, enclosed, sign, name, named, right, returned, block, stmts, otherwise, arm, arms, behind_stmt_name, behind_if, keyword, enter, take, Reaction, refuse, with_behind, next_after, operand, level_from, right_of, lowest, climb_by, whole_expr, end_expr, step_behind}
+use Rattle.vlt_automaton.specs.Automaton.{Symbol, an_expr, an_init, a_name, thing, further, listed, enclosed, sign, name, named, right, returned, block, stmts, otherwise, arm, arms, after_stmt_name, following_if, keyword, enter, take, Reaction, refuse, with_after, next_after, operand, level_from, right_of, lowest, climb_by, whole_expr, end_expr, step_after}
 use Rattle.vlt_syntax_laws.proofs.After.{after, onward}
 use Rattle.vlt_syntax_laws.proofs.Takes.{Takes, take_some, take_names, take_named, keys_there, take_states}
 use Rattle.vlt_syntax_laws.proofs.Exprs.{one_deep, take_expr, begins, as_listed, IsStart}
@@ -27,7 +27,7 @@ expr_paren extra e s rest h = take_expr extra e s _ h refl
 pub expr_semicolon : (extra : Bounds) → Takes extra expr_then an_expr (IsExpr (wider extra)) mark.Semicolon
 expr_semicolon extra e s rest h = take_expr extra e s _ h refl
 
--- what comes behind a statement
+-- what comes after a statement
 abbrev is_no_else : Token → Bool
 is_no_else (t.keyword word.Else) = false
 is_no_else x = true
@@ -87,7 +87,7 @@ declared_ty extra (s.owning None m at) room s n rest h = keys_there extra m.keys
 declared_ty extra (s.owning (Some ss) m at) room s n rest h = take_states extra ss (named ∷ name ∷ sign mark.Assign ∷ right ∷ sign mark.Semicolon ∷ stmts room ∷ s) _ h ∙ take_named extra m _ _ refl
 declared_ty extra (s.guarded k m) room s n rest h = take_named extra m _ _ refl
 declared_ty extra (s.plain m) room s n rest h = plain_stmt m.keys where
-  plain_stmt : (ks : List Name) → after (wider extra) (enclosed_then name_then mark.Less mark.Greater ks (t.name n ∷ t.sign mark.Assign ∷ rest)) (behind_stmt_name ∷ stmts room ∷ s) ≡ after (wider extra) rest (right ∷ sign mark.Semicolon ∷ stmts room ∷ s)
+  plain_stmt : (ks : List Name) → after (wider extra) (enclosed_then name_then mark.Less mark.Greater ks (t.name n ∷ t.sign mark.Assign ∷ rest)) (after_stmt_name ∷ stmts room ∷ s) ≡ after (wider extra) rest (right ∷ sign mark.Semicolon ∷ stmts room ∷ s)
   plain_stmt [] = refl
   plain_stmt (k ∷ ks) = take_names extra mark.Greater (k ∷ ks) _ _ refl tt
 
@@ -128,7 +128,7 @@ mutual
   take_stmt extra a b (s.print e at) room s rest h n = expr_paren extra e (sign mark.CloseParen ∷ sign mark.Semicolon ∷ stmts room ∷ s) _ h
   take_stmt extra a b (s.block (s.braced ss at)) room s rest h n = rw (entered room (stmts (room - 1) ∷ []) h.0) (take_stmts extra a b ss (room - 1) (stmts room ∷ s) rest h.1)
   take_stmt extra a b (s.choose (s.choice e body other at)) room s rest h n =
-      rw (entered room (behind_if room) (has_room extra body room h.1))
+      rw (entered room (following_if room) (has_room extra body room h.1))
       (take_condition extra e (block room ∷ otherwise room ∷ stmts room ∷ s) _ h.0
       ∙ take_block extra a b body room (otherwise room ∷ stmts room ∷ s) _ h.1
       ∙ take_else extra a b other room (stmts room ∷ s) rest h.2 n)
@@ -160,7 +160,7 @@ mutual
   take_else extra a b s.nothing room s rest h n = otherwise_ends extra room s rest n
   take_else extra a b (s.last (s.braced ss at)) room s rest h n = take_stmts extra a b ss (room - 1) s rest h.1
   take_else extra a b (s.chained (s.choice e body other at)) room s rest h n =
-      rw (entered (room - 1) (behind_if (room - 1)) (has_room extra body (room - 1) h.1.1))
+      rw (entered (room - 1) (following_if (room - 1)) (has_room extra body (room - 1) h.1.1))
       (take_condition extra e (block (room - 1) ∷ otherwise (room - 1) ∷ s) _ h.1.0
       ∙ take_block extra a b body (room - 1) (otherwise (room - 1) ∷ s) _ h.1.1
       ∙ take_else extra a b other (room - 1) s rest h.1.2 n)
@@ -177,7 +177,7 @@ mutual
 
 -- ---- right sides
 
--- no expression goes on with a parenthesis behind its first name
+-- no expression goes on with a parenthesis after its first name
 abbrev pub no_paren : List Token → Bool
 no_paren [] = false
 no_paren (t.sign mark.OpenParen ∷ xs) = false
@@ -202,15 +202,15 @@ as_right extra (t.name n) [] s h i = absurd cc
 as_right extra (t.name n) (t.sign mark.OpenParen ∷ ts) s h i = absurd cc
 as_right extra (t.name n) (t.sign mark.Dot ∷ ts) s h i = refl
 as_right extra (t.name n) (t.sign k ∷ ts) s h i = by_operator (operator_of k) where
-  by_operator : (o : Option Op) → onward (after (wider extra) ts) (next_after (with_behind (climb_by o 1 (whole_expr (wider extra))) (end_expr ∷ [])) s (λ u. step_behind (wider extra) 0 s (t.sign k)))
-      ≡ onward (after (wider extra) ts) (next_after (climb_by o 1 (whole_expr (wider extra))) (end_expr ∷ s) (λ u. step_behind (wider extra) 1 (end_expr ∷ s) (t.sign k)))
+  by_operator : (o : Option Op) → onward (after (wider extra) ts) (next_after (with_after (climb_by o 1 (whole_expr (wider extra))) (end_expr ∷ [])) s (λ u. step_after (wider extra) 0 s (t.sign k)))
+      ≡ onward (after (wider extra) ts) (next_after (climb_by o 1 (whole_expr (wider extra))) (end_expr ∷ s) (λ u. step_after (wider extra) 1 (end_expr ∷ s) (t.sign k)))
   by_operator None = refl
   by_operator (Some o) = rw (one_deep extra) (by_level (nat_lt (level o) lowest)) where
     pushed : Reaction
     pushed = take (operand ((wider extra).depth - 1) (level_from (suc (level o)) ((wider extra).depth - 1) ∷ right_of lowest (wider extra).depth 1 ∷ []) ∷ [])
 
-    by_level : (low : Bool) → onward (after (wider extra) ts) (next_after (with_behind (if low then refuse else pushed) (end_expr ∷ [])) s (λ u. step_behind (wider extra) 0 s (t.sign k)))
-        ≡ onward (after (wider extra) ts) (next_after (if low then refuse else pushed) (end_expr ∷ s) (λ u. step_behind (wider extra) 1 (end_expr ∷ s) (t.sign k)))
+    by_level : (low : Bool) → onward (after (wider extra) ts) (next_after (with_after (if low then refuse else pushed) (end_expr ∷ [])) s (λ u. step_after (wider extra) 0 s (t.sign k)))
+        ≡ onward (after (wider extra) ts) (next_after (if low then refuse else pushed) (end_expr ∷ s) (λ u. step_after (wider extra) 1 (end_expr ∷ s) (t.sign k)))
     by_level true = refl
     by_level false = refl
 as_right extra (t.name n) (t.name k ∷ ts) s h i = refl

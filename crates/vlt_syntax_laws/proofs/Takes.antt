@@ -11,7 +11,7 @@ use Rattle.vlt_syntax.specs.Tree.{Name, States, Named, Ty}
 use Rattle.vlt_syntax.specs.Lists.{further_then, listed_then, enclosed_then, Each, IsFilled}
 use Rattle.vlt_syntax.specs.Spelling.{name_then, states_then, named_then, ty_then}
 use Rattle.vlt_syntax.specs.Grammar.{IsTy, IsStates}
-use Rattle.vlt_automaton.specs.Automaton.{Reaction, take, skip, refuse, exceed, with_behind, next_after, Next, to, Thing, a_name, a_ty, Symbol, thing, further, enclosed, states, named, behind_type_name, name}
+use Rattle.vlt_automaton.specs.Automaton.{Reaction, take, skip, refuse, exceed, with_after, next_after, Next, to, Thing, a_name, a_ty, Symbol, thing, further, enclosed, states, named, after_type_name, name}
 use Rattle.vlt_syntax_laws.proofs.After.{after}
 use Rattle.vlt_syntax.specs.Grammar.{Bounds}
 use Rattle.vlt_syntax_laws.proofs.Wider.{wider}
@@ -35,7 +35,7 @@ pub kept : (b : Bool) (x y : Reaction) → IsNoSkip x → IsNoSkip y → IsNoSki
 kept true x y p q = p
 kept false x y p q = q
 
-pub followed_settled : (r : Reaction) (ys s : List Symbol) (below other : Unit {0} → Next) → IsNoSkip r → next_after (with_behind r ys) s below ≡ next_after r (ys ++ s) other
+pub followed_settled : (r : Reaction) (ys s : List Symbol) (below other : Unit {0} → Next) → IsNoSkip r → next_after (with_after r ys) s below ≡ next_after r (ys ++ s) other
 followed_settled (take xs) ys s below other h = ap to (append_assoc xs ys s)
 followed_settled skip ys s below other h = absurd h
 followed_settled refuse ys s below other h = refl
@@ -49,7 +49,7 @@ further_one extra k closing s rest e = rw e refl
 pub further_end : (extra : Bounds) (k : Thing) (closing : Mark) (s : List Symbol) (rest : List Token) → after (wider extra) (t.sign closing ∷ rest) (further k closing None ∷ s) ≡ after (wider extra) rest s
 further_end extra k closing s rest = rw (same closing) refl
 
--- a thing is taken, where a comma or the closing sign comes behind it
+-- a thing is taken, where a comma or the closing sign comes after it
 abbrev pub Takes : (extra : Bounds) {X : Type 0} → (X → List Token → List Token) → Thing → (X → Type 0) → Mark → Type 0
 Takes extra {X} spell k P closing = (x : X) (s : List Symbol) (rest : List Token) → P x → after (wider extra) (spell x (t.sign closing ∷ rest)) (thing k ∷ s) ≡ after (wider extra) (t.sign closing ∷ rest) s
 
@@ -98,7 +98,7 @@ abbrev pub ends_type : List Token → Bool
 ends_type [] = false
 ends_type (x ∷ xs) = is_type_end x
 
--- behind the name of a type, with its keys or without
+-- after the name of a type, with its keys or without
 pub keys_there : (extra : Bounds) (ns : List Name) (s : List Symbol) (rest : List Token) → ends_type rest ≡ true → after (wider extra) (enclosed_then name_then mark.Less mark.Greater ns rest) (enclosed a_name mark.Less mark.Greater None ∷ s) ≡ after (wider extra) rest s
 keys_there extra [] s [] e = absurd cc
 keys_there extra [] s (t.name n ∷ rest) e = refl
@@ -112,7 +112,7 @@ keys_there extra (n ∷ ns) s rest e = take_names extra mark.Greater (n ∷ ns) 
 pub take_named : (extra : Bounds) (n : Named) (s : List Symbol) (rest : List Token) → ends_type rest ≡ true → after (wider extra) (named_then n rest) (named ∷ s) ≡ after (wider extra) rest s
 take_named extra n s rest e = keys_there extra n.keys s rest e
 
-pub plain_keys : (extra : Bounds) (ns : List Name) (s : List Symbol) (rest : List Token) → ends_type rest ≡ true → after (wider extra) (enclosed_then name_then mark.Less mark.Greater ns rest) (behind_type_name ∷ s) ≡ after (wider extra) rest s
+pub plain_keys : (extra : Bounds) (ns : List Name) (s : List Symbol) (rest : List Token) → ends_type rest ≡ true → after (wider extra) (enclosed_then name_then mark.Less mark.Greater ns rest) (after_type_name ∷ s) ≡ after (wider extra) rest s
 plain_keys extra [] s [] e = absurd cc
 plain_keys extra [] s (t.name n ∷ rest) e = refl
 plain_keys extra [] s (t.tick n ∷ rest) e = refl

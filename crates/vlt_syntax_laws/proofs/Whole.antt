@@ -11,8 +11,8 @@ use Rattle.vlt_syntax.specs.Tree as s
 use Rattle.vlt_syntax.specs.Tree.{Name, Named, Case, Head}
 use Rattle.vlt_syntax.specs.Lists.{Each, further_then}
 use Rattle.vlt_syntax.specs.Spelling.{name_then}
-use Rattle.vlt_automaton.specs.Automaton.{Left, Thing, a_name, a_param, a_ty, a_key, a_case, a_parameter, an_entry, an_expr, an_init, a_result_type, a_simple, a_stmt, a_decl, Symbol, tick, sign, keyword, thing, further, listed, enclosed, marked_name, states, at_states, named, behind_tracked, behind_type_name, operand, operations, behind_name, close_group, end_expr, owner, right, behind_right_name, returned, block, stmts, behind_stmt_name, otherwise, behind_else, arm, arms, entry_states, behind_entry_at, arrow_states, clause, head, further_states, fields, behind_fields, decls, Reaction, take, skip, refuse, exceed, with_behind, start_thing, less, one_more, reaction, react_further, depth_read, whole_depth}
-use Rattle.vlt_syntax_laws.proofs.Back.{Rest, Part, Spells, Spelled, SpelledBehind, Completed, Filled, ThingType, IsThing, spell_of, RoomFor, ended, operations_end}
+use Rattle.vlt_automaton.specs.Automaton.{Left, Thing, a_name, a_param, a_ty, a_key, a_case, a_parameter, an_entry, an_expr, an_init, a_result_type, a_simple, a_stmt, a_decl, Symbol, tick, sign, keyword, thing, further, listed, enclosed, marked_name, states, at_states, named, after_tracked, after_type_name, operand, operations, following_name, close_group, end_expr, owner, right, after_right_name, returned, block, stmts, after_stmt_name, otherwise, following_else, arm, arms, entry_states, after_entry_at, arrow_states, clause, head, further_states, fields, after_fields, decls, Reaction, take, skip, refuse, exceed, with_after, start_thing, less, one_more, reaction, react_further, depth_read, whole_depth}
+use Rattle.vlt_syntax_laws.proofs.Back.{Rest, Part, Spells, Spelled, SpelledAfter, Completed, Filled, ThingType, IsThing, spell_of, RoomFor, ended, operations_end}
 use Rattle.vlt_syntax_laws.proofs.Choices.{by_sign}
 use Rattle.vlt_syntax.specs.Grammar.{Bounds}
 use Rattle.vlt_syntax_laws.proofs.Wider.{wider}
@@ -23,8 +23,8 @@ Gives K L = (n : ℕ) (r : List Token) → K n r → L n r
 spelled_map : (X : Type 0) (P : X → Type 0) (spell : X → List Token → List Token) (K L : Rest) (ts : List Token) → Gives K L → Spelled X P spell K ts → Spelled X P spell L ts
 spelled_map X P spell K L ts f (x, rest, p, e, k) = (x, rest, p, e, f 0 rest k)
 
-behind_map : (b : Token) (X : Type 0) (P : X → Type 0) (spell : X → List Token → List Token) (K L : Rest) (ts : List Token) → Gives K L → SpelledBehind b X P spell K ts → SpelledBehind b X P spell L ts
-behind_map b X P spell K L ts f (x, rest, p, e, k) = (x, rest, p, e, f 0 rest k)
+after_map : (b : Token) (X : Type 0) (P : X → Type 0) (spell : X → List Token → List Token) (K L : Rest) (ts : List Token) → Gives K L → SpelledAfter b X P spell K ts → SpelledAfter b X P spell L ts
+after_map b X P spell K L ts f (x, rest, p, e, k) = (x, rest, p, e, f 0 rest k)
 
 completed_map : (most : ℕ) (gs : List Filled) (K L : Rest) (ts : List Token) → Gives K L → Completed most gs K ts → Completed most gs L ts
 completed_map most gs K L ts f (e, rest, b, d, is, k) = (e, rest, b, d, is, f _ rest k)
@@ -41,32 +41,32 @@ maps extra d (marked_name m) K L ts f h = spelled_map _ _ _ K L ts f h
 maps extra d states K L ts f h = spelled_map _ _ _ K L ts f h
 maps extra d at_states K L ts f h = spelled_map _ _ _ K L ts f h
 maps extra d named K L ts f h = spelled_map _ _ _ K L ts f h
-maps extra d behind_tracked K L ts f h = behind_map _ _ _ _ K L ts f h
-maps extra d behind_type_name K L ts f h = λ n. behind_map _ _ _ _ K L ts f (h n)
+maps extra d after_tracked K L ts f h = after_map _ _ _ _ K L ts f h
+maps extra d after_type_name K L ts f h = λ n. after_map _ _ _ _ K L ts f (h n)
 maps extra d (operand room fs) K L ts f h = λ most gs is some fits. completed_map most gs K L ts f (h most gs is some fits)
 maps extra d (operations n fs) K L ts f h = λ most gs e is deep b fits. completed_map most gs K L _ f (h most gs e is deep b fits)
-maps extra d (behind_name n fs) K L ts f h = λ most gs e so is deep b fits. completed_map most gs K L _ f (h most gs e so is deep b fits)
+maps extra d (following_name n fs) K L ts f h = λ most gs e so is deep b fits. completed_map most gs K L _ f (h most gs e so is deep b fits)
 maps extra d (close_group fs) K L ts f h = (h.0, h.1, λ most gs e is deep b fits. completed_map most gs K L _ f (h.2 most gs e is deep b fits))
 maps extra d end_expr K L ts f h = f 0 ts h
 maps extra d owner K L ts f h = spelled_map _ _ _ K L ts f h
 maps extra d right K L ts f h = spelled_map _ _ _ K L ts f h
-maps extra d behind_right_name K L ts f h = λ n. behind_map _ _ _ _ K L ts f (h n)
+maps extra d after_right_name K L ts f h = λ n. after_map _ _ _ _ K L ts f (h n)
 maps extra d returned K L ts f h = spelled_map _ _ _ K L ts f h
 maps extra d (block room) K L ts f h = λ r. spelled_map _ _ _ K L ts f (h r)
 maps extra d (stmts room) K L ts f h = spelled_map _ _ _ K L ts f h
-maps extra d behind_stmt_name K L ts f h = λ n. behind_map _ _ _ _ K L ts f (h n)
+maps extra d after_stmt_name K L ts f h = λ n. after_map _ _ _ _ K L ts f (h n)
 maps extra d (otherwise room) K L ts f h = λ r. spelled_map _ _ _ K L ts f (h r)
-maps extra d (behind_else room) K L ts f h = λ r. behind_map _ _ _ _ K L ts f (h r)
+maps extra d (following_else room) K L ts f h = λ r. after_map _ _ _ _ K L ts f (h r)
 maps extra d (arm room) K L ts f h = λ r. let q = h r in (q.0, q.1, q.2, q.3, q.4, q.5, f 0 _ q.6)
 maps extra d (arms room) K L ts f h = λ r. spelled_map _ _ _ K L ts f (h r)
-maps extra d entry_states K L ts f h = λ n. behind_map _ _ _ _ K L ts f (h n)
-maps extra d behind_entry_at K L ts f h = λ n. let q = h n in (q.0, q.1, q.2, q.3, f 0 _ q.4)
+maps extra d entry_states K L ts f h = λ n. after_map _ _ _ _ K L ts f (h n)
+maps extra d after_entry_at K L ts f h = λ n. let q = h n in (q.0, q.1, q.2, q.3, f 0 _ q.4)
 maps extra d arrow_states K L ts f h = λ n ss i. let q = h n ss i in (q.0, q.1, q.2, q.3, f 0 _ q.4)
 maps extra d clause K L ts f h = spelled_map _ _ _ K L ts f h
 maps extra d head K L ts f h = spelled_map _ _ _ K L ts f h
 maps extra d (further_states left) K L ts f h = spelled_map _ _ _ K L ts f h
 maps extra d (fields left) K L ts f h = (h.0, h.1, h.2, h.3, h.4, h.5, h.6, f 0 _ h.7)
-maps extra d behind_fields K L ts f h = (h.0, h.1, h.2, h.3, f 0 _ h.4)
+maps extra d after_fields K L ts f h = (h.0, h.1, h.2, h.3, f 0 _ h.4)
 maps extra d (decls left) K L ts f h = (h.0, h.1, h.2, h.3, h.4, f 0 _ h.5)
 
 pub parted : (extra : Bounds) (d : ℕ) (xs q : List Symbol) (K : Rest) (ts : List Token) → Spells extra d (xs ++ q) K ts → Spells extra d xs (λ n r. Spells extra n q K r) ts
@@ -79,7 +79,7 @@ Backs extra d y K x c skip = K (depth_read y) (x ∷ c) → Part extra d y K (x 
 Backs extra d y K x c refuse = Unit {0}
 Backs extra d y K x c (exceed n) = Unit {0}
 
--- a thing, whatever comes behind it
+-- a thing, whatever comes after it
 abbrev ThingBack : (extra : Bounds) → Thing → Token → Reaction → Type 1
 ThingBack extra k x r = (K : Rest) (c : List Token) → Backs extra 0 (thing k) K x c r
 
@@ -90,7 +90,7 @@ Then extra P ys K x c skip = Unit {0}
 Then extra P ys K x c refuse = Unit {0}
 Then extra P ys K x c (exceed n) = Unit {0}
 
-pub followed_back : (extra : Bounds) (k : Thing) (x : Token) (c : List Token) (ys : List Symbol) (K : Rest) (r : Reaction) → Backs extra 0 (thing k) (λ n q. Spells extra n ys K q) x c r → Then extra (λ L ts. Part extra 0 (thing k) L ts) ys K x c (with_behind r ys)
+pub followed_back : (extra : Bounds) (k : Thing) (x : Token) (c : List Token) (ys : List Symbol) (K : Rest) (r : Reaction) → Backs extra 0 (thing k) (λ n q. Spells extra n ys K q) x c r → Then extra (λ L ts. Part extra 0 (thing k) L ts) ys K x c (with_after r ys)
 followed_back extra k x c ys K (take xs) b = λ h. b (parted extra 0 xs ys K c h)
 followed_back extra k x c ys K skip b = tt
 followed_back extra k x c ys K refuse b = tt
@@ -149,7 +149,7 @@ listed_back extra k m left d K c x b kept =
     by_sign (λ x r. Backs extra 0 (thing k) (λ n q. Spells extra n (further k m (less left) ∷ []) K q) x c (start_thing (wider extra) k x) → NoSkip (start_thing (wider extra) k x) → Backs extra d (listed k m left) K x c r) m x _ _
     (λ b kept h r. ([], c, (tt, no_room left), refl, h))
     (λ b kept. rest_of (start_thing (wider extra) k x) b kept) b kept where
-      rest_of : (z : Reaction) → Backs extra 0 (thing k) (λ n q. Spells extra n (further k m (less left) ∷ []) K q) x c z → NoSkip z → Backs extra d (listed k m left) K x c (with_behind z (further k m (less left) ∷ []))
+      rest_of : (z : Reaction) → Backs extra 0 (thing k) (λ n q. Spells extra n (further k m (less left) ∷ []) K q) x c z → NoSkip z → Backs extra d (listed k m left) K x c (with_after z (further k m (less left) ∷ []))
       rest_of (take xs) b kept = λ h r.
           let q = first_of_list extra k m left K (x ∷ c) r (b (parted extra 0 xs (further k m (less left) ∷ []) K c h)) in
           (q.0 ∷ q.1, q.2, (q.3, q.4), q.5, q.6)
@@ -162,7 +162,7 @@ listed_back extra k m left d K c x b kept =
 pub stmts_end : (extra : Bounds) (room : ℕ) (d : ℕ) (K : Rest) (c : List Token) → Spells extra 0 [] K c → Part extra d (stmts room) K (t.sign mark.CloseBrace ∷ c)
 stmts_end extra room d K c h = (s.done, c, tt, refl, h)
 
--- a statement and those behind it
+-- a statement and those after it
 pub stmts_more : (extra : Bounds) (room : ℕ) (d : ℕ) (K : Rest) (ts : List Token) → Spells extra 0 (thing (a_stmt room) ∷ stmts room ∷ []) K ts → Part extra d (stmts room) K ts
 stmts_more extra room d K ts h = (s.next h.0 h.4.0, h.4.1, (h.2, h.4.2), h.3 ∙ ap (spell_of (a_stmt room) h.0) h.4.3, h.4.4)
 
@@ -171,7 +171,7 @@ block_back extra at room d K c x =
     by_sign (λ x r. Backs extra d (block room) K x c r) mark.OpenBrace x _ _
     (λ h r. (s.braced h.0 at, h.1, (r, h.2), ap (λ z. t.sign mark.OpenBrace ∷ z) h.3, h.4)) tt
 
--- behind the word `while`, whose parts come one by one
+-- after the word `while`, whose parts come one by one
 pub while_back : (extra : Bounds) (at : Span) (room : ℕ) (K : Rest) (c : List Token) → 1 ≤ room → Spells extra 0 (sign mark.OpenParen ∷ thing an_expr ∷ sign mark.CloseParen ∷ block room ∷ []) K c → Part extra 0 (thing (a_stmt room)) K (t.keyword word.While ∷ c)
 while_back extra at room K c some h =
     let e = h.2 in
@@ -237,36 +237,36 @@ has extra at d (marked_name m) K k = (_, (None, (k 0).0, tt, refl, (k 0).1))
 has extra at d states K k = (_, (s.one (the_name at []), (k 0).0, tt, refl, (k 0).1))
 has extra at d at_states K k = (_, (None, (k 0).0, tt, refl, (k 0).1))
 has extra at d named K k = (_, (a_named at, (k 0).0, tt, refl, (k 0).1))
-has extra at d behind_tracked K k = (t.name [] ∷ (k 0).0, (s.owning None (a_named at) at, (k 0).0, tt, refl, (k 0).1))
-has extra at d behind_type_name K k = ((k 0).0, λ n. (s.plain (record { name = the_name at n; keys = [] }), (k 0).0, tt, refl, (k 0).1))
+has extra at d after_tracked K k = (t.name [] ∷ (k 0).0, (s.owning None (a_named at) at, (k 0).0, tt, refl, (k 0).1))
+has extra at d after_type_name K k = ((k 0).0, λ n. (s.plain (record { name = the_name at n; keys = [] }), (k 0).0, tt, refl, (k 0).1))
 has extra at d (operand room fs) K k = (
   t.keyword word.True ∷ (k (whole_depth 1 fs)).0,
   λ most gs is some fits.
       ended at most 11 room gs (s.true at) K (k (whole_depth 1 fs)).0 tt some fits (subst (λ f. K (whole_depth 1 f) (k (whole_depth 1 fs)).0) (sym is) (k (whole_depth 1 fs)).1),
 )
 has extra at d (operations n fs) K k = ((k (whole_depth n fs)).0, operations_end at n fs K (k (whole_depth n fs)).0 (k (whole_depth n fs)).1)
-has extra at d (behind_name n fs) K k = ((k (whole_depth n fs)).0, λ most gs e so is deep b fits. operations_end at n fs K (k (whole_depth n fs)).0 (k (whole_depth n fs)).1 most gs e is deep b fits)
+has extra at d (following_name n fs) K k = ((k (whole_depth n fs)).0, λ most gs e so is deep b fits. operations_end at n fs K (k (whole_depth n fs)).0 (k (whole_depth n fs)).1 most gs e is deep b fits)
 has extra at d (close_group fs) K k = (_, ((k (whole_depth (suc d) fs)).0, refl, operations_end at (suc d) fs K (k (whole_depth (suc d) fs)).0 (k (whole_depth (suc d) fs)).1))
 has extra at d end_expr K k = k 0
 has extra at d owner K k = (_, (None, (k 0).0, tt, refl, (k 0).1))
 has extra at d right K k = (_, (s.input at, (k 0).0, tt, refl, (k 0).1))
-has extra at d behind_right_name K k = ((k 0).0, λ n. (s.value (s.variable (the_name at n)), (k 0).0, (tt, omega arith), refl, (k 0).1))
+has extra at d after_right_name K k = ((k 0).0, λ n. (s.value (s.variable (the_name at n)), (k 0).0, (tt, omega arith), refl, (k 0).1))
 has extra at d returned K k = (_, (s.nothing, (k 0).0, tt, refl, (k 0).1))
 has extra at d (block room) K k = (t.sign mark.OpenBrace ∷ t.sign mark.CloseBrace ∷ (k 0).0, λ r. (s.braced s.done at, (k 0).0, (r, tt), refl, (k 0).1))
 has extra at d (stmts room) K k = (_, (s.done, (k 0).0, tt, refl, (k 0).1))
-has extra at d behind_stmt_name K k = (t.sign mark.OpenParen ∷ t.sign mark.CloseParen ∷ t.sign mark.Semicolon ∷ (k 0).0, λ n. (s.call (record { function = the_name at n; arguments = []; at = at }) at, (k 0).0, (λ room. tt), refl, (k 0).1))
+has extra at d after_stmt_name K k = (t.sign mark.OpenParen ∷ t.sign mark.CloseParen ∷ t.sign mark.Semicolon ∷ (k 0).0, λ n. (s.call (record { function = the_name at n; arguments = []; at = at }) at, (k 0).0, (λ room. tt), refl, (k 0).1))
 has extra at d (otherwise room) K k = ((k 0).0, λ r. (s.nothing, (k 0).0, tt, refl, (k 0).1))
-has extra at d (behind_else room) K k = (t.sign mark.OpenBrace ∷ t.sign mark.CloseBrace ∷ (k 0).0, λ r. (s.last (s.braced s.done at), (k 0).0, (r, tt), refl, (k 0).1))
+has extra at d (following_else room) K k = (t.sign mark.OpenBrace ∷ t.sign mark.CloseBrace ∷ (k 0).0, λ r. (s.last (s.braced s.done at), (k 0).0, (r, tt), refl, (k 0).1))
 has extra at d (arm room) K k = (t.keyword word.Case ∷ t.tick [] ∷ t.sign mark.Colon ∷ t.sign mark.OpenBrace ∷ t.sign mark.CloseBrace ∷ (k 0).0, λ r. (the_name at [], [], s.braced s.done at, (k 0).0, (r, tt), refl, (k 0).1))
 has extra at d (arms room) K k = (t.sign mark.CloseBrace ∷ (k 0).0, λ r. (s.no_arms, (k 0).0, tt, refl, (k 0).1))
 has extra at d entry_states K k = ((k 0).0, λ n. (s.held (record { key = the_name at n; states = None }), (k 0).0, tt, refl, (k 0).1))
-has extra at d behind_entry_at K k = (t.name [] ∷ (k 0).0, λ n. (s.held (record { key = the_name at n; states = Some (s.one (the_name at [])) }), (k 0).0, tt, refl, (k 0).1))
+has extra at d after_entry_at K k = (t.name [] ∷ (k 0).0, λ n. (s.held (record { key = the_name at n; states = Some (s.one (the_name at [])) }), (k 0).0, tt, refl, (k 0).1))
 has extra at d arrow_states K k = ((k 0).0, λ n ss i. (s.held (record { key = the_name at n; states = Some ss }), (k 0).0, i, refl, (k 0).1))
 has extra at d clause K k = (_, (None, (k 0).0, tt, refl, (k 0).1))
 has extra at d head K k = (_, (a_head at, (k 0).0, record { result_type = tt; parameters = tt; few = omega arith; clause = tt }, refl, (k 0).1))
 has extra at d (further_states left) K k = (_, ([], (k 0).0, omega arith, refl, (k 0).1))
 has extra at d (fields left) K k = (_, ([], None, (k 0).0, tt, tt, omega arith, refl, (k 0).1))
-has extra at d behind_fields K k = (_, (None, (k 0).0, tt, refl, (k 0).1))
+has extra at d after_fields K k = (_, (None, (k 0).0, tt, refl, (k 0).1))
 has extra at d (decls left) K k = (_, ([], (k 0).0, tt, omega arith, refl, (k 0).1))
 
 -- every stack has a spelling

@@ -61,13 +61,13 @@ added_none names n = sym (or_none _)
 
 -- ---- the names that stay abstract
 
-abbrev pub HasBehind : (names texts all : List (List ℕ)) → Type 0
-HasBehind names texts all = (n : List ℕ) → (has_text names n || has_text texts n) ≡ has_text all n
+abbrev pub HasAfter : (names texts all : List (List ℕ)) → Type 0
+HasAfter names texts all = (n : List ℕ) → (has_text names n || has_text texts n) ≡ has_text all n
 
 pub next_names : (os : List ℕ) (ds : List code.Decl) (i o : ℕ) (d : code.Decl) (names more all : List (List ℕ))
     → i < length os → o ≡ get_or os i o → i < length ds → d ≡ get_or ds i d → Adds names (hidden_name o (decl_of d)) more
-    → HasBehind names (hidden_names (drop i os) (map decl_of (drop i ds))) all
-    → HasBehind more (hidden_names (drop (i + 1) os) (map decl_of (drop (i + 1) ds))) all
+    → HasAfter names (hidden_names (drop i os) (map decl_of (drop i ds))) all
+    → HasAfter more (hidden_names (drop (i + 1) os) (map decl_of (drop (i + 1) ds))) all
 next_names os ds i o d names more all some o-is left d-is adds before n =
     let here = hidden_name o (decl_of d) in
     let rest = hidden_names (drop (i + 1) os) (map decl_of (drop (i + 1) ds)) in
@@ -82,7 +82,7 @@ none_left [] = refl
 none_left (o ∷ os) = refl
 
 pub all_names : (os : List ℕ) (ds : List code.Decl) (i : ℕ) (names all : List (List ℕ)) → length ds ≤ i
-    → HasBehind names (hidden_names (drop i os) (map decl_of (drop i ds))) all → (n : List ℕ) → has_text names n ≡ has_text all n
+    → HasAfter names (hidden_names (drop i os) (map decl_of (drop i ds))) all → (n : List ℕ) → has_text names n ≡ has_text all n
 all_names os ds i names all past before n =
     sym (or_none _) ∙ ap (λ ts. has_text names n || has_text ts n) (sym none) ∙ before n
   where
@@ -90,7 +90,7 @@ all_names os ds i names all past before n =
     none = ap (λ es. hidden_names (drop i os) (map decl_of es)) (drop_all i ds past) ∙ none_left (drop i os)
 
 pub no_more_names : (os : List ℕ) (ds : List code.Decl) (i : ℕ) (names all : List (List ℕ)) → length os ≤ i
-    → HasBehind names (hidden_names (drop i os) (map decl_of (drop i ds))) all → (n : List ℕ) → has_text names n ≡ has_text all n
+    → HasAfter names (hidden_names (drop i os) (map decl_of (drop i ds))) all → (n : List ℕ) → has_text names n ≡ has_text all n
 no_more_names os ds i names all past before n =
     sym (or_none _) ∙ ap (λ ts. has_text names n || has_text ts n) (sym (none (map decl_of (drop i ds)))) ∙ before n
   where

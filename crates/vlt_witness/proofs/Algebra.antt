@@ -6,7 +6,7 @@ use Rattle.vlt_witness.specs.Ways.{Finds, nothing_found, End, IsSmall}
 use Rattle.vlt_witness.specs.Search.{Led, Spreads, Joined, Leg, Leads, CanLead, Walks, Sight, Meets, CanMeet, Sees, By, CanBy, Then, ThenSight, Either, EitherSight, Picked, PickedSight, Takes, IsTable, IsEvery}
 
 pub led_map : {E : Type 0} (G H : One → List Choice → E → Type 0) (L : Finds One) (f : One) (e : E) (cs : List Choice) → ((o : One) (es : List Choice) → G o es e → H o es e) → Led G L f e cs → Led H L f e cs
-led_map G H L f e cs to x = record { begin = x.begin; before = x.before; behind = x.behind; comes = x.comes; goes = to x.begin x.behind x.goes; whole = x.whole }
+led_map G H L f e cs to x = record { begin = x.begin; before = x.before; following = x.following; comes = x.comes; goes = to x.begin x.following x.goes; whole = x.whole }
 
 module _ {E : Type 0} (G H : One → List Choice → E → Type 0) (C D : One → E → Type 0) (L : Finds One) (A B R : Finds E) where
   pub spreads_map : ((o : One) (cs : List Choice) (e : E) → G o cs e → H o cs e) → ((o : One) (e : E) → D o e → C o e) → Spreads G C L A R → Spreads H D L A R
@@ -81,10 +81,10 @@ walks_then T U L M A R x y = record {
     join f q cs z y = record {
       begin = y.begin;
       before = y.before;
-      behind = y.behind ++ z.behind;
+      following = y.following ++ z.following;
       comes = y.comes;
-      goes = λ rest. (z.begin, (z.behind ++ rest, subst (λ l. T y.begin l z.begin (z.behind ++ rest)) (sym (append_assoc y.behind z.behind rest)) (y.goes (z.behind ++ rest)), z.goes rest));
-      whole = z.whole ∙ ap (λ l. l ++ z.behind) y.whole ∙ append_assoc y.before y.behind z.behind;
+      goes = λ rest. (z.begin, (z.following ++ rest, subst (λ l. T y.begin l z.begin (z.following ++ rest)) (sym (append_assoc y.following z.following rest)) (y.goes (z.following ++ rest)), z.goes rest));
+      whole = z.whole ∙ ap (λ l. l ++ z.following) y.whole ∙ append_assoc y.before y.following z.following;
     }
 
     led : (f q : One) (cs : List Choice) → Led (Leads U) M f q cs → Led (Leads (Then T U)) L f q cs
@@ -101,10 +101,10 @@ sees_then T N L M A R x y = record {
     join f e cs z y = record {
       begin = y.begin;
       before = y.before;
-      behind = y.behind ++ z.behind;
+      following = y.following ++ z.following;
       comes = y.comes;
-      goes = (z.begin, (z.behind, y.goes z.behind, z.goes));
-      whole = z.whole ∙ ap (λ l. l ++ z.behind) y.whole ∙ append_assoc y.before y.behind z.behind;
+      goes = (z.begin, (z.following, y.goes z.following, z.goes));
+      whole = z.whole ∙ ap (λ l. l ++ z.following) y.whole ∙ append_assoc y.before y.following z.following;
     }
 
     led : (f : One) (e : End) (cs : List Choice) → Led (Meets N) M f e cs → Led (Meets (ThenSight T N)) L f e cs
@@ -133,8 +133,8 @@ table G C V R v w x = record {
     alone : (o : One) (e : _) (cs : List Choice) → Led G V o e cs → G o cs e
     alone o e cs z =
         let at = v.found o z.begin z.before z.comes in
-        let whole : cs ≡ z.behind = z.whole ∙ ap (λ l. l ++ z.behind) at.1 in
-        subst (λ l. G o l e) (sym whole) (subst (λ m. G m z.behind e) (sym at.0) z.goes)
+        let whole : cs ≡ z.following = z.whole ∙ ap (λ l. l ++ z.following) at.1 in
+        subst (λ l. G o l e) (sym whole) (subst (λ m. G m z.following e) (sym at.0) z.goes)
 
 -- what was found of each status leads on
 pub spreads_table : {E : Type 0} (G : One → List Choice → E → Type 0) (C : One → E → Type 0) (S : Finds E) (L : Finds One) (A R : Finds E) → IsTable G C S → ((f q : One) (cs : List Choice) → L f q cs → IsSmall q) → Spreads (By S) (CanBy S) L A R → Spreads G C L A R

@@ -57,20 +57,20 @@ walks_onto t rs T L P R x y = walks_map (Then T (Passes t rs)) (OnRows t rs T) L
     (λ o cs q ds z. (z.0, subst (λ l. T o cs z.0 l) (sym z.1.2.1) z.1.1, z.1.2.0))
     (λ o cs q ds z. (z.0, (ds, z.1, (z.2, refl)))) (walks_then T (Passes t rs) L P nothing_found R x y)
 
--- what is met at rows behind, or at a join
-abbrev pub RowsBehind : Aim → (at : ℕ) → List Row → Leg → Sight
-RowsBehind a at rs T e o cs = (q : One) × T o cs q [] × RowMet (rows_aimed a e) (joins_aimed a e) (aim_tok a) at rs q
+-- what is met at rows after, or at a join
+abbrev pub RowsAfter : Aim → (at : ℕ) → List Row → Leg → Sight
+RowsAfter a at rs T e o cs = (q : One) × T o cs q [] × RowMet (rows_aimed a e) (joins_aimed a e) (aim_tok a) at rs q
 
-pub sees_rows_behind : (a : Aim) (at : ℕ) (rs : List Row) (T : Leg) (L P : Finds One) (A R : Finds End) → Walks T L nothing_found P → Sees (RowsHere a at rs) P A R → Sees (RowsBehind a at rs T) L A R
-sees_rows_behind a at rs T L P A R x y = sees_map (ThenSight T (RowsHere a at rs)) (RowsBehind a at rs T) L A R
+pub sees_rows_after : (a : Aim) (at : ℕ) (rs : List Row) (T : Leg) (L P : Finds One) (A R : Finds End) → Walks T L nothing_found P → Sees (RowsHere a at rs) P A R → Sees (RowsAfter a at rs T) L A R
+sees_rows_after a at rs T L P A R x y = sees_map (ThenSight T (RowsHere a at rs)) (RowsAfter a at rs T) L A R
     (λ e o cs z. (z.0, subst (λ l. T o cs z.0 l) z.1.2.0 z.1.1, z.1.2.1))
     (λ e o cs z. (z.0, ([], z.1, (refl, z.2)))) (sees_then T (RowsHere a at rs) L P A R x y)
 
-abbrev pub JoinBehind : Aim → Spot → Leg → Sight
-JoinBehind a s T e o cs = (q : One) × T o cs q [] × joins_aimed a e s q
+abbrev pub JoinAfter : Aim → Spot → Leg → Sight
+JoinAfter a s T e o cs = (q : One) × T o cs q [] × joins_aimed a e s q
 
-pub sees_join_behind : (a : Aim) (s : Spot) (T : Leg) (L P : Finds One) (A R : Finds End) → Walks T L nothing_found P → Sees (JoinHere a s) P A R → Sees (JoinBehind a s T) L A R
-sees_join_behind a s T L P A R x y = sees_map (ThenSight T (JoinHere a s)) (JoinBehind a s T) L A R
+pub sees_join_after : (a : Aim) (s : Spot) (T : Leg) (L P : Finds One) (A R : Finds End) → Walks T L nothing_found P → Sees (JoinHere a s) P A R → Sees (JoinAfter a s T) L A R
+sees_join_after a s T L P A R x y = sees_map (ThenSight T (JoinHere a s)) (JoinAfter a s T) L A R
     (λ e o cs z. (z.0, subst (λ l. T o cs z.0 l) z.1.2.0 z.1.1, z.1.2.1))
     (λ e o cs z. (z.0, ([], z.1, (refl, z.2)))) (sees_then T (JoinHere a s) L P A R x y)
 
@@ -140,9 +140,9 @@ module _ (a : Aim) (at k : ℕ) (rs : List Row) (u v : Block) (L P : List Way) (
       let inside = sees_rowed t rs (EitherSight S1 S2) (On L) (On P) (OnSeen m1) (OnSeen m3) x (sees_both S1 S2 (On P) (OnSeen m1) (OnSeen m2) (OnSeen m3) first.met second.met) in
       let spot = join_spot (end_of v) (k + length rs + spots_block u + spots_block v) in
       let W : Leg = λ o cs q ds. Through t at (choose rs u v) o cs to_next q ds in
-      let behind = sees_join_behind a spot W (On L) (On r.next) (OnSeen m3) (OnSeen m4) next seen in
+      let following = sees_join_after a spot W (On L) (On r.next) (OnSeen m3) (OnSeen m4) next seen in
       let I = RowedSight t rs (EitherSight S1 S2) in
-      let B = JoinBehind a spot W in
+      let B = JoinAfter a spot W in
       let H = RowsHere a at rs in
       record {
         next = next;
@@ -151,7 +151,7 @@ module _ (a : Aim) (at k : ℕ) (rs : List Row) (u v : Block) (L P : List Way) (
         met = sees_map (EitherSight H (EitherSight I B)) (SeenIn a at k (choose rs u v)) (On L) (OnSeen m) (OnSeen m4)
             (λ e o cs. ⊎_elim (λ z. inl z) (⊎_elim (λ z. inr (inl (z.0, z.1, ⊎_elim (λ h. (h.0, inl (h.1, h.2))) (λ h. (h.0, inr (h.1, h.2))) z.2))) (λ z. inr (inr z))))
             (λ e o cs. ⊎_elim (λ z. inl z) (⊎_elim (λ z. inr (inl (z.0, z.1, ⊎_elim (λ h. inl (z.2.0, h.0, h.1)) (λ h. inr (z.2.0, h.0, h.1)) z.2.1))) (λ z. inr (inr z))))
-            (sees_both H (EitherSight I B) (On L) (OnSeen m) (OnSeen m1) (OnSeen m4) y (sees_both I B (On L) (OnSeen m1) (OnSeen m3) (OnSeen m4) inside behind));
+            (sees_both H (EitherSight I B) (On L) (OnSeen m) (OnSeen m1) (OnSeen m4) y (sees_both I B (On L) (OnSeen m1) (OnSeen m3) (OnSeen m4) inside following));
         number = omega (arith, n);
       }
 
@@ -162,14 +162,14 @@ module _ (a : Aim) (k : ℕ) (ss : Stmts) (bound : List Tok) (end : ℕ) (L : Li
   searched_block x y n =
       let t = aim_tok a in
       let T : Leg = λ o cs q ds. ThroughStmts t ss o cs to_next q ds in
-      let B = RowsBehind a end (map away_row bound) T in
+      let B = RowsAfter a end (map away_row bound) T in
       record {
         next = walks_map (OnRows t (map away_row bound) T) (λ o cs q ds. ThroughBlock t (block ss bound end) o cs to_next q ds) (On L) nothing_found (On r.next) (λ o cs q ds z. z) (λ o cs q ds z. z)
             (walks_onto t (map away_row bound) T (On L) (On w.next) (On r.next) inside.next x);
         breaks = walks_map (λ o cs q ds. ThroughStmts t ss o cs to_break q ds) (λ o cs q ds. ThroughBlock t (block ss bound end) o cs to_break q ds) (On L) (On j.breaks) (On j'.breaks) (λ o cs q ds z. z) (λ o cs q ds z. z) inside.breaks;
         continues = walks_map (λ o cs q ds. ThroughStmts t ss o cs to_continue q ds) (λ o cs q ds. ThroughBlock t (block ss bound end) o cs to_continue q ds) (On L) (On j.continues) (On j'.continues) (λ o cs q ds z. z) (λ o cs q ds z. z) inside.continues;
         met = sees_map (EitherSight (SeenInStmts a k ss) B) (SeenInBlock a k (block ss bound end)) (On L) (OnSeen m) (OnSeen m2) (λ e o cs z. z) (λ e o cs z. z)
-            (sees_both (SeenInStmts a k ss) B (On L) (OnSeen m) (OnSeen m1) (OnSeen m2) inside.met (sees_rows_behind a end (map away_row bound) T (On L) (On w.next) (OnSeen m1) (OnSeen m2) inside.next y));
+            (sees_both (SeenInStmts a k ss) B (On L) (OnSeen m) (OnSeen m1) (OnSeen m2) inside.met (sees_rows_after a end (map away_row bound) T (On L) (On w.next) (OnSeen m1) (OnSeen m2) inside.next y));
         number = omega (arith, n);
       }
 
@@ -189,7 +189,7 @@ module _ (a : Aim) (at k : ℕ) (rs : List Row) (s : Block) (es : List Row) (L P
       let t = aim_tok a in
       let T : Leg = λ o cs q ds. ThroughBlock t s o cs to_next q ds in
       let M = SeenInBlock a (k + length rs) s in
-      let B = RowsBehind a (end_of s) es T in
+      let B = RowsAfter a (end_of s) es T in
       let H = RowsHere a at rs in
       record {
         next = walks_map (Rowed t rs (OnRows t es T)) (λ o cs q ds. Through t at (focus rs s es) o cs to_next q ds) (On L) nothing_found (On r.next)
@@ -203,6 +203,6 @@ module _ (a : Aim) (at k : ℕ) (rs : List Row) (s : Block) (es : List Row) (L P
             (sees_both H (EitherSight (RowedSight t rs M) (RowedSight t rs B)) (On L) (OnSeen m) (OnSeen m1) (OnSeen m3) y
             (sees_both (RowedSight t rs M) (RowedSight t rs B) (On L) (OnSeen m1) (OnSeen m2) (OnSeen m3)
             (sees_rowed t rs M (On L) (On P) (OnSeen m1) (OnSeen m2) x inside.met)
-            (sees_rowed t rs B (On L) (On P) (OnSeen m2) (OnSeen m3) x (sees_rows_behind a (end_of s) es T (On P) (On w.next) (OnSeen m2) (OnSeen m3) inside.next v))));
+            (sees_rowed t rs B (On L) (On P) (OnSeen m2) (OnSeen m3) x (sees_rows_after a (end_of s) es T (On P) (On w.next) (OnSeen m2) (OnSeen m3) inside.next v))));
         number = omega (arith, n);
       }

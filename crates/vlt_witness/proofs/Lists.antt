@@ -67,7 +67,7 @@ module _ {X E : Type 0} (P : X → Finds One) (G : One → List Choice → E →
   spreads_first A = record { found = λ f e cs a. inl a; kept = λ f e cs a. (cs, a); all = λ f o cs e p c. absurd p }
 
   led_more : (L M : Finds One) (f : One) (e : E) (cs : List Choice) → ((o : One) (ds : List Choice) → L f o ds → M f o ds) → Led G L f e cs → Led G M f e cs
-  led_more L M f e cs to z = record { begin = z.begin; before = z.before; behind = z.behind; comes = to z.begin z.before z.comes; goes = z.goes; whole = z.whole }
+  led_more L M f e cs to z = record { begin = z.begin; before = z.before; following = z.following; comes = to z.begin z.before z.comes; goes = z.goes; whole = z.whole }
 
   pub spreads_more : (xs : List X) (i : ℕ) (x : X) (A B R : Finds E) → i < length xs → x ≡ get_or xs i x → Spreads G C (Among P (take i xs)) A B → Spreads G C (P x) B R → Spreads G C (Among P (take (i + 1) xs)) A R
   spreads_more xs i x A B R lt read s t = record {

@@ -49,7 +49,7 @@ pub record IsClosing (turn from : Finds One) (list : List Way) (i : ℕ) : Type 
 
 pub closing_first : (turn from : Finds One) (list : List Way) → Joined (On []) from (On list) → IsClosing turn from list 0
 closing_first turn from list j = record {
-  found = λ f q cs p. ⊎_elim (λ n. absurd n) (λ y. record { begin = q; before = cs; behind = []; comes = y; goes = (0, (refl, refl)); whole = sym (append-nil cs) }) (j.found f q cs p);
+  found = λ f q cs p. ⊎_elim (λ n. absurd n) (λ y. record { begin = q; before = cs; following = []; comes = y; goes = (0, (refl, refl)); whole = sym (append-nil cs) }) (j.found f q cs p);
   kept = j.second;
   all = λ f m q cs es p. absurd p;
 }
@@ -70,10 +70,10 @@ closing_more turn from list new i x lt read s before c = record {
         let y = c.found f z.begin z.before (among_at IsWay list i x f z.begin z.before lt read z.comes) in record {
           begin = y.begin;
           before = y.before;
-          behind = y.behind ++ z.behind;
+          following = y.following ++ z.following;
           comes = y.comes;
-          goes = (suc y.goes.0, times_more turn y.goes.0 y.begin z.begin q y.behind z.behind y.goes.1 z.goes);
-          whole = z.whole ∙ ap (λ l. l ++ z.behind) y.whole ∙ append_assoc y.before y.behind z.behind;
+          goes = (suc y.goes.0, times_more turn y.goes.0 y.begin z.begin q y.following z.following y.goes.1 z.goes);
+          whole = z.whole ∙ ap (λ l. l ++ z.following) y.whole ∙ append_assoc y.before y.following z.following;
         }
 
 pub closing_ends : (turn from : Finds One) (list : List Way) (i : ℕ) → length list ≤ i → IsClosing turn from list i → IsClosed turn from (On list)
@@ -107,7 +107,7 @@ module _ (t : Tok) (at : ℕ) (rs : List Row) (s : Block) (S : Finds One) (table
   }
     where
       led : (f q : One) (cs : List Choice) → Led (Often S) L f q cs → Led (Leads (HeadLeg t at rs s)) L f q cs
-      led f q cs z = record { begin = z.begin; before = z.before; behind = z.behind; comes = z.comes; goes = λ rest. (z.goes.0, reaches z.goes.0 z.begin z.behind q z.goes.1 rest); whole = z.whole }
+      led f q cs z = record { begin = z.begin; before = z.before; following = z.following; comes = z.comes; goes = λ rest. (z.goes.0, reaches z.goes.0 z.begin z.following q z.goes.1 rest); whole = z.whole }
 
       come : (n : ℕ) (f o : One) (cs : List Choice) (q : One) (es ds : List Choice) → H f o cs → Reaches (ThroughBlock t s) t rs at n o es q ds → (bs : List Choice) × H f q bs
       come zero f o cs q es ds h x = (cs, subst (λ z. H f z cs) (sym x.0) h)

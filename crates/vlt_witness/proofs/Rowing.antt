@@ -54,7 +54,7 @@ others_unmet a e at (r ∷ rs) o h x = ⊎_elim (λ y. not_both (is_tok (aim_tok
 
 pub others_walk : (t : Tok) (rs : List Row) (L : Finds One) → HasNoRow t rs → Walks (Passes t rs) L nothing_found L
 others_walk t rs L h = record {
-  found = λ f q cs l. inr (record { begin = q; before = cs; behind = []; comes = l; goes = λ rest. ((others_pass t rs (only q) q h).1 refl, refl); whole = sym (append-nil cs) });
+  found = λ f q cs l. inr (record { begin = q; before = cs; following = []; comes = l; goes = λ rest. ((others_pass t rs (only q) q h).1 refl, refl); whole = sym (append-nil cs) });
   kept = λ f q cs n. absurd n;
   all = λ f o cs q l c. (cs, subst (λ m. L f m cs) (sym ((others_pass t rs (only o) q h).0 c.1.1.0)) l);
 }
@@ -77,7 +77,7 @@ way_passes t rs x y from path made = record {
         let z = (smooth_images t rs).one (In (many_of x.ones)) q ((made.each q).0 w.there) in record {
           begin = z.0;
           before = cs;
-          behind = [];
+          following = [];
           comes = record { from = ap one_of (sym from) ∙ w.from; there = z.1; path = sym path ∙ w.path };
           goes = λ rest. (z.2, refl);
           whole = sym (append-nil cs);
@@ -98,7 +98,7 @@ way_met a at rs x y A R met from join path j = record {
     led f e cs p = record {
       begin = met.0;
       before = cs;
-      behind = [];
+      following = [];
       comes = record { from = ap one_of (sym from) ∙ p.from; there = met.1; path = sym path ∙ p.path };
       goes = (refl, subst (λ e. RowMet (rows_aimed a e) (joins_aimed a e) (aim_tok a) at rs met.0) (ap end_of_join (sym join) ∙ p.met) met.2);
       whole = sym (append-nil cs);
@@ -146,7 +146,7 @@ join_met a at j x y A R met from join path k = record {
     led f e cs p = record {
       begin = met.0;
       before = cs;
-      behind = [];
+      following = [];
       comes = record { from = ap one_of (sym from) ∙ p.from; there = met.1; path = sym path ∙ p.path };
       goes = (refl, subst (λ e. joins_aimed a e (spot_of at (class_of j.is_head) j.number) met.0) (ap end_of_join (sym join) ∙ p.met) met.2);
       whole = sym (append-nil cs);

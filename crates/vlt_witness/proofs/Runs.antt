@@ -22,7 +22,7 @@ use Rattle.vlt_witness.specs.Search.{Joined, Leg, Walks, Sight, Sees, Then, Then
 use Rattle.vlt_witness.specs.Aims.{aim_tok, rows_aimed, joins_aimed, JoinHere, RowsHere}
 use Rattle.vlt_witness.specs.Parts.{SeenIn, SeenInBlock, SeenInStmts, SearchedForm, SearchedBlock, SearchedStmts, WayArm, SeenInArm, SearchedArm, WayArms, SeenInArms, SearchedArms}
 use Rattle.vlt_witness.proofs.Algebra.{walks_map, sees_map, walks_none, sees_none, walks_both, sees_both, walks_joined, walks_then, sees_then, walks_picked, sees_picked}
-use Rattle.vlt_witness.proofs.Forms.{no_break, no_continue, Rowed, RowedSight, walks_rowed, sees_rowed, JoinBehind, sees_join_behind}
+use Rattle.vlt_witness.proofs.Forms.{no_break, no_continue, Rowed, RowedSight, walks_rowed, sees_rowed, JoinAfter, sees_join_after}
 use Rattle.vlt_witness.proofs.Turns.{walks_fresh}
 
 -- ---- statements
@@ -63,7 +63,7 @@ leading_done a k n ss L cur j i m o r g e u =
   where
     stay : Walks (λ o cs q ds. ThroughStmts (aim_tok a) done o cs to_next q ds) (On cur) nothing_found (On cur)
     stay = record {
-      found = λ f q cs h. inr (record { begin = q; before = cs; behind = []; comes = h; goes = λ rest. (refl, refl, refl); whole = sym (append-nil cs) });
+      found = λ f q cs h. inr (record { begin = q; before = cs; following = []; comes = h; goes = λ rest. (refl, refl, refl); whole = sym (append-nil cs) });
       kept = λ f q cs n. absurd n;
       all = λ f o cs q h c. (cs, subst (λ z. On cur f z cs) (sym c.1.1.1) h);
     }
@@ -243,7 +243,7 @@ module _ (a : Aim) (at k : ℕ) (rs : List Row) (arms : Arms) (end : ℕ) (L P :
       let M = SeenInArms a at (k + length rs) 0 arms in
       let spot = join_spot end (k + length rs + spots_arms arms) in
       let I = RowedSight t rs M in
-      let B = JoinBehind a spot W in
+      let B = JoinAfter a spot W in
       let H = RowsHere a at rs in
       record {
         next = subst (λ l. Walks W (On L) nothing_found (On l)) (sym same) next;
@@ -253,6 +253,6 @@ module _ (a : Aim) (at k : ℕ) (rs : List Row) (arms : Arms) (end : ℕ) (L P :
             (λ e o cs. ⊎_elim (λ z. inl z) (⊎_elim (λ z. let h = seen_from a at (k + length rs) 0 arms e z.0 cs z.2 in inr (inl (z.0, z.1, (h.0, (h.1.0, h.1.1 ∙ ap (λ c. c ∷ h.1.0) (same_case at (0 + h.0) h.0 (omega arith)), h.1.2))))) (λ z. inr (inr z))))
             (λ e o cs. ⊎_elim (λ z. inl z) (⊎_elim (λ z. let h = z.2 in inr (inl (z.0, z.1, seen_to a at (k + length rs) 0 h.0 arms e z.0 cs h.1.0 (h.1.1 ∙ ap (λ c. c ∷ h.1.0) (same_case at h.0 (0 + h.0) (omega arith))) h.1.2))) (λ z. inr (inr z))))
             (sees_both H (EitherSight I B) (On L) (OnSeen m) (OnSeen m1) (OnSeen m3) y
-            (sees_both I B (On L) (OnSeen m1) (OnSeen m2) (OnSeen m3) (sees_rowed t rs M (On L) (On P) (OnSeen m1) (OnSeen m2) x inside.met) (sees_join_behind a spot W (On L) (On w.next) (OnSeen m2) (OnSeen m3) next seen)));
+            (sees_both I B (On L) (OnSeen m1) (OnSeen m2) (OnSeen m3) (sees_rowed t rs M (On L) (On P) (OnSeen m1) (OnSeen m2) x inside.met) (sees_join_after a spot W (On L) (On w.next) (OnSeen m2) (OnSeen m3) next seen)));
         number = omega (arith, n);
       }

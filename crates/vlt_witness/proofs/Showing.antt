@@ -49,7 +49,7 @@ paths_are a s m w ways old list one ones path none x = record {
   where
     from : (f : One) (e : End) (cs : List Choice) (z : Led (Meets (SeenInBlock a 0 s)) (On ways) f e cs) → IsWay w f z.begin z.before → (o : One) × In (many_of m) o × SeenInBlock a 0 s e o cs
     from f e cs z y =
-        let whole : cs ≡ z.behind = z.whole ∙ ap (λ l. l ++ z.behind) (sym y.path ∙ path) in
+        let whole : cs ≡ z.following = z.whole ∙ ap (λ l. l ++ z.following) (sym y.path ∙ path) in
         (z.begin, subst (λ m. In (many_of m) z.begin) ones y.there, subst (λ l. SeenInBlock a 0 s e z.begin l) (sym whole) z.goes)
 
 -- ---- one that is looked for

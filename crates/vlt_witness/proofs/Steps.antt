@@ -20,7 +20,7 @@ module _ (x s y : Way) (from : y.from ≡ x.from) (ones : y.ones ≡ s.ones) (pa
   way_by f q cs w = record {
     begin = one_of s.from;
     before = choices_of x.path;
-    behind = choices_of s.path;
+    following = choices_of s.path;
     comes = record { from = ap one_of (sym from) ∙ w.from; there = has; path = refl };
     goes = record { from = refl; there = subst (λ m. In (many_of m) q) ones w.there; path = refl };
     whole = sym w.path ∙ path;
@@ -50,7 +50,7 @@ module _ (x : Way) (s y : Seen) (from : y.from ≡ x.from) (join : y.join ≡ s.
   seen_by f e cs w = record {
     begin = one_of s.from;
     before = choices_of x.path;
-    behind = choices_of s.path;
+    following = choices_of s.path;
     comes = record { from = ap one_of (sym from) ∙ w.from; there = has; path = refl };
     goes = record { from = refl; met = ap end_of_join (sym join) ∙ w.met; path = refl };
     whole = sym w.path ∙ path;
@@ -80,7 +80,7 @@ way_takes c x y from ones path = record {
   found = λ f q cs w. inr (record {
     begin = q;
     before = choices_of x.path;
-    behind = c ∷ [];
+    following = c ∷ [];
     comes = record { from = ap one_of (sym from) ∙ w.from; there = subst (λ m. In (many_of m) q) ones w.there; path = refl };
     goes = λ rest. (refl, refl);
     whole = sym w.path ∙ path;

@@ -17,7 +17,7 @@ use Rattle.vlt_witness.specs.Aims.{aim_tok, JoinHere, RowsHere}
 use Rattle.vlt_witness.specs.Parts.{SeenIn, SearchedForm, WayBy, SeenBy, TurnLeg, LeaveLeg, TurnSight, IsTurned}
 use Rattle.vlt_witness.proofs.Algebra.{walks_map, sees_map, walks_none, walks_both, sees_both, walks_joined, walks_then, sees_then, table, spreads_table}
 use Rattle.vlt_witness.proofs.Looping.{HeadLeg, small_on, heads_walk, turns_of, of_turns}
-use Rattle.vlt_witness.proofs.Forms.{no_break, no_continue, Rowed, RowedSight, walks_rowed, sees_rowed, JoinBehind, sees_join_behind}
+use Rattle.vlt_witness.proofs.Forms.{no_break, no_continue, Rowed, RowedSight, walks_rowed, sees_rowed, JoinAfter, sees_join_after}
 
 pub walks_fresh : (T : Leg) (L : Finds One) (A : List Way) (R : Finds One) → A ≡ [] → Walks T L (On A) R → Walks T L nothing_found R
 walks_fresh T L A R e x = record {
@@ -89,8 +89,8 @@ searched_loop a at k rs s L H j m m1 m2 u r t closed mets outs seen n =
     let M = TurnSight a at k rs s in
     let inside = sees_then T M (On L) (On H) (OnSeen m) (OnSeen m1) heads (spreads_table (Meets M) (CanMeet M) (OnSeen u.met) (On H) (OnSeen m) (OnSeen m1) t.met small mets) in
     let spot = join_spot (end_of s) (k + 1 + length rs + spots_block s) in
-    let B = JoinBehind a spot W in
-    let behind = sees_join_behind a spot W (On L) (On r.next) (OnSeen m1) (OnSeen m2) next seen in
+    let B = JoinAfter a spot W in
+    let following = sees_join_after a spot W (On L) (On r.next) (OnSeen m1) (OnSeen m2) next seen in
     record {
       next = next;
       breaks = walks_none (λ o cs q ds. Through tok at (loop rs s) o cs to_break q ds) (On L) (On j.breaks) (λ o cs q ds z. no_break z.0);
@@ -98,6 +98,6 @@ searched_loop a at k rs s L H j m m1 m2 u r t closed mets outs seen n =
       met = sees_map (EitherSight (ThenSight T M) B) (SeenIn a at k (loop rs s)) (On L) (OnSeen m) (OnSeen m2)
           (λ e o cs. ⊎_elim (λ z. inl (z.1.1.0, (z.0, (z.1.0, z.1.1.1, z.1.2)))) (λ z. inr z))
           (λ e o cs. ⊎_elim (λ z. inl (z.1.0, (z.1.1.0, (z.0, z.1.1.1), z.1.1.2))) (λ z. inr z))
-          (sees_both (ThenSight T M) B (On L) (OnSeen m) (OnSeen m1) (OnSeen m2) inside behind);
+          (sees_both (ThenSight T M) B (On L) (OnSeen m) (OnSeen m1) (OnSeen m2) inside following);
       number = omega (arith, n);
     }

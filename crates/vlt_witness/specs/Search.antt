@@ -14,10 +14,10 @@ use Rattle.vlt_witness.specs.Ways.{Finds, nothing_found, On, OnSeen, End, IsSmal
 pub record Led {E : Type 0} (G : One → List Choice → E → Type 0) (from : Finds One) (f : One) (e : E) (cs : List Choice) : Type 0 where
   pub begin : One
   pub before : List Choice
-  pub behind : List Choice
+  pub following : List Choice
   pub comes : from f begin before
-  pub goes : G begin behind e
-  pub whole : cs ≡ before ++ behind
+  pub goes : G begin following e
+  pub whole : cs ≡ before ++ following
 
 -- What was found before stays found, in `new` by some path. What else is there goes on by G from what came, and all that
 -- can go on from there by C is there.
@@ -32,7 +32,7 @@ pub record Joined {E : Type 0} (a b new : Finds E) : Type 0 where
   pub first : (f : One) (e : E) (cs : List Choice) → a f e cs → (ds : List Choice) × new f e ds
   pub second : (f : One) (e : E) (cs : List Choice) → b f e cs → (ds : List Choice) × new f e ds
 
--- more behind what there was
+-- more after what there was
 pub record Grows (old new : List Way) : Type 0 where
   pub more : List Way
   pub is : new ≡ old ++ more

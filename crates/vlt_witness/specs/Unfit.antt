@@ -32,7 +32,7 @@ pub data IsUnfit (p : Program) (f : Func) : Type 0 where
   many_vars : 2 ^ 32 < length f.vars → IsUnfit p f
   no_start : HasNoStart p f → IsUnfit p f
   long_switch : HasLongSwitch (body_flow p f) → IsUnfit p f
-  -- the number behind the last row or join has more than 64 bits
+  -- the number after the last row or join has more than 64 bits
   many_spots : 2 ^ 64 ≤ spots_block (body_flow p f) → IsUnfit p f
 
 -- The function has a body and an instance of the fault's origin, and its body there is unfit.

@@ -5,7 +5,7 @@ ghost use Rattle.vlt_core.specs.Maps as maps;
 ghost use Rattle.vlt_core.specs.Found.{One};
 ghost use Rattle.vlt_core.specs.Witness.{RowMet};
 ghost use Rattle.vlt_core.specs.View.{tok_of};
-ghost use Rattle.vlt_core.specs.HeldView.{row_of, toks_of};
+ghost use Rattle.vlt_core.specs.HeldView.{toks_of};
 ghost use Rattle.vlt_rows.specs.FlowView.{rows_view};
 ghost use Rattle.vlt_core_laws.specs.Sweep.{In, IsImage};
 ghost use Rattle.vlt_faults.specs.Finding.Ones.{many_of};

@@ -1,7 +1,7 @@
 //! The search: through each part of a body once, from every status at the head of a loop.
 
 ghost use Rattle.std.specs.Prelude.{◌≡◌, ◌+◌, ◌≤◌, ◌^◌, [], MatchResult, OnOk};
-ghost use Rattle.vlt_core.specs.Flow.{step, choose, loop, switch, scope, focus, return, jump};
+ghost use Rattle.vlt_core.specs.Flow.{step, choose, loop, switch, focus, return, jump};
 ghost use Rattle.vlt_witness.specs.declared.search.Jumps.{Jumps as JumpsSpec};
 ghost use Rattle.vlt_core.specs.HeldView.{toks_of};
 ghost use Rattle.vlt_rows.specs.FlowView.{flow_view, block_view, stmts_view, arm_view, arms_view, rows_view};
@@ -24,15 +24,15 @@ pub struct Jumps {
     pub continues: Items<Way>,
 }
 
-/// Ways that go on behind a part, and the number of the next row or join.
+/// Ways that go on after a part, and the number of the next row or join.
 #[derive(Drop)]
 pub struct Went {
     pub next: Items<Way>,
     pub number: usize,
 }
 
-/// The number behind so many rows and joins.
-fn behind(number: usize, count: usize) -> Result<usize, RowError>
+/// The number after so many rows and joins.
+fn following(number: usize, count: usize) -> Result<usize, RowError>
     ensures { MatchResult result (λ n. n ≡ number + count)
         (UnfitBy (2 ^ 64 ≤ number + count)) }
 {
@@ -141,11 +141,11 @@ fn search_step(
     let next = pass(alloc, aim, at, rows, ways, met)?;
     Ok(Went {
         next,
-        number: behind(number, rows.len())?,
+        number: following(number, rows.len())?,
     })
 }
 
-/// Nothing comes behind a return.
+/// Nothing comes after a return.
 fn search_return(
     alloc: Global,
     aim: Aim,
@@ -161,7 +161,7 @@ fn search_return(
     let _ended = pass(alloc, aim, at, rows, ways, met)?;
     Ok(Went {
         next: Items::new(alloc),
-        number: behind(number, rows.len())?,
+        number: following(number, rows.len())?,
     })
 }
 
@@ -197,7 +197,7 @@ fn search_jump(
     land(alloc, jumps, continues, gone.as_slice())?;
     Ok(Went {
         next: Items::new(alloc),
-        number: behind(number, left.len())?,
+        number: following(number, left.len())?,
     })
 }
 
@@ -238,7 +238,7 @@ fn search_if(
         (block_view else_block.now)) ways jumps.old jumps.new met.old met.new result }
 {
     let passed = pass(alloc, aim, at, rows, ways, met)?;
-    let inside = behind(number, rows.len())?;
+    let inside = following(number, rows.len())?;
     let a = search_way(
         alloc,
         aim,
@@ -270,7 +270,7 @@ fn search_if(
     see_join(alloc, aim, here, else_block.end, next.as_slice(), met)?;
     Ok(Went {
         next,
-        number: behind(b.number, 1)?,
+        number: following(b.number, 1)?,
     })
 }
 
@@ -308,7 +308,7 @@ fn search_turn(
         breaks: chosen(alloc, passed.as_slice(), at, Pick::Exit)?,
         continues: Items::new(alloc),
     };
-    let first = behind(behind(number, 1)?, rows.len())?;
+    let first = following(following(number, 1)?, rows.len())?;
     let end = search_way(
         alloc,
         aim,
@@ -355,7 +355,7 @@ fn search_while(
     see_join(alloc, aim, here, body.end, next.as_slice(), met)?;
     Ok(Went {
         next,
-        number: behind(turned.number, 1)?,
+        number: following(turned.number, 1)?,
     })
 }
 
@@ -376,7 +376,7 @@ fn search_switch(
         jumps.old jumps.new met.old met.new result }
 {
     let passed = pass(alloc, aim, at, rows, ways, met)?;
-    let inside = behind(number, rows.len())?;
+    let inside = following(number, rows.len())?;
     let went = search_arms(alloc, aim, arms, at, inside, passed.as_slice(), jumps, met)?;
     let here = JoinName {
         is_head: false,
@@ -385,7 +385,7 @@ fn search_switch(
     see_join(alloc, aim, here, end, went.next.as_slice(), met)?;
     Ok(Went {
         next: went.next,
-        number: behind(went.number, 1)?,
+        number: following(went.number, 1)?,
     })
 }
 
@@ -417,7 +417,7 @@ fn search_arm(
 {
     let picked = chosen(alloc, ways, at, Pick::Case(position))?;
     let passed = pass(alloc, aim, at, arm.rows.as_slice(), picked, met)?;
-    let inside = behind(number, arm.rows.len())?;
+    let inside = following(number, arm.rows.len())?;
     search_block(alloc, aim, &arm.body, inside, passed, jumps, met)
 }
 
@@ -473,12 +473,12 @@ fn search_focus(
 {
     let passed = pass(alloc, aim, at, rows, ways, met)?;
     let mut out = no_jumps(alloc);
-    let inside = behind(number, rows.len())?;
+    let inside = following(number, rows.len())?;
     let end = search_block(alloc, aim, body, inside, passed, &mut out, met)?;
     let next = pass(alloc, aim, body.end, after, end.next, met)?;
     Ok(Went {
         next,
-        number: behind(end.number, after.len())?,
+        number: following(end.number, after.len())?,
     })
 }
 
@@ -500,7 +500,7 @@ pub fn search_block(
     let next = pass(alloc, aim, block.end, rows.as_slice(), end.next, met)?;
     Ok(Went {
         next,
-        number: behind(end.number, block.bound.len())?,
+        number: following(end.number, block.bound.len())?,
     })
 }
 

@@ -2,7 +2,6 @@
 
 ghost use Rattle.std.specs.Prelude.{◌≡◌, ◌↔◌, List, Some, OnOk, IsTrue};
 ghost use Rattle.vlt_core.specs.Witness as w;
-ghost use Rattle.vlt_core_laws.specs.Sweep.{In};
 ghost use Rattle.vlt_witness.specs.Ways.{one_of, row_end, end_of_join, class_of, IsWay, On, IsSeen, OnSeen};
 ghost use Rattle.vlt_witness.specs.Search.{Spreads, Joined, Sees, By, CanBy};
 ghost use Rattle.vlt_witness.specs.Aims.{JoinHere, spot_of};
@@ -130,7 +129,7 @@ pub fn see_join(
     Ok(())
 }
 
-/// What was met behind the end of a way is met behind it.
+/// What was met after the end of a way is met after it.
 fn extend_by(
     alloc: Global,
     way: &Way,
@@ -154,7 +153,7 @@ fn extend_by(
     )
 }
 
-/// What is met behind a way.
+/// What is met after a way.
 fn extend(
     alloc: Global,
     way: &Way,
@@ -170,7 +169,7 @@ fn extend(
     Ok(())
 }
 
-/// What is met behind ways.
+/// What is met after ways.
 pub fn compose_seen(
     alloc: Global,
     ways: &[Way],

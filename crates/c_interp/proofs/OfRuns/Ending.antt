@@ -30,7 +30,7 @@ stops m p b input lists stop before after program budgets started ended =
 
 -- ---- the text
 
--- where memory was wanting nothing was written
+-- where memory ran out nothing was written
 memory_untouched : (p : Program) (given : Given) (b : Budgets) (before after : Outside) → EndsGiven p given b before after Memory → IsUntouched before after
 memory_untouched p (numbers input answers) b before after h = h
 memory_untouched p (bad_input line) b before after h = h.1

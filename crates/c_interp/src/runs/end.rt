@@ -9,6 +9,6 @@ use vlt_steps::RunEnd;
 pub enum CEnd {
     /// The text stands for no program, for this reason, which isn't want of memory.
     Unread(CError),
-    /// The run of the program over its files of numbers ends so, or memory was wanting for the program.
+    /// The run of the program over its files of numbers ends so, or memory ran out for the program.
     Ended(RunEnd<CStop>),
 }

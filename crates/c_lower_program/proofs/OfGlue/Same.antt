@@ -154,4 +154,4 @@ all_written p f slots called answered given first second third =
 
 pub glue_written : (p : Program) (f : Func) (slots : List CVar) (next : Numbers) (stmts : List Stmt) → slots ≡ vars_at (first_temps p f) (sorts_of p f.result) → next ≡ past_all (first_temps p f) (sorts_of p f.result) → stmts ≡ written p f slots → Writes (glue_of p f) [] stmts next
 unfolding glue_of
-glue_written p f slots next stmts vars behind all = record { stmts = all ∙ ap (written p f) vars; most = behind }
+glue_written p f slots next stmts vars following all = record { stmts = all ∙ ap (written p f) vars; most = following }

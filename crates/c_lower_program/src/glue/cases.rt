@@ -1,7 +1,6 @@
 //! The parts of a variant's cases.
 
 ghost use Rattle.std.specs.Prelude.{◌≡◌, ◌≤◌, ◌++◌, [], ◌∷◌, map, length, OnOk, IfOk};
-ghost use Rattle.std.specs.List.{flat_map};
 ghost use Rattle.vlt_core.specs.Lookups.{cases_of};
 ghost use Rattle.vlt_core.specs.View.{case_key_of, case_of, keys_of, program_of, ty_of};
 ghost use Rattle.c_syntax.specs.View.{stmt_of};

@@ -1,6 +1,6 @@
 //! The functions that stand for externals.
 
-ghost use Rattle.std.specs.Prelude.{◌≡◌, ◌≤◌, ◌++◌, [], ◌∷◌, Bool, false, map, length, option_map, OnOk, IfOk};
+ghost use Rattle.std.specs.Prelude.{◌≡◌, ◌≤◌, ◌++◌, [], ◌∷◌, false, map, length, option_map, OnOk, IfOk};
 ghost use Rattle.vlt_core.specs.View as view;
 ghost use Rattle.c_syntax.specs.View.{func_of, stmt_of};
 ghost use Rattle.c_lower.specs.Lowering.{func_with, lowered};

@@ -1,15 +1,13 @@
 //! Objects that go out to the host with a call, and that come back.
 
-ghost use Rattle.std.specs.Prelude.{◌≡◌, ◌++◌, [], ◌∷◌, Bool, map, filter, Some, OnOk};
-ghost use Rattle.std.specs.Option.{option_map};
+ghost use Rattle.std.specs.Prelude.{◌≡◌, ◌++◌, [], ◌∷◌, map, filter, Some, OnOk};
 ghost use Rattle.vlt_core.specs.Lookups.{is_owning_var, var_type};
 ghost use Rattle.vlt_core.specs.View.{entry_of, func_of};
 ghost use Rattle.c_syntax.specs.C as c;
 ghost use Rattle.c_syntax.specs.View.{stmt_of};
 ghost use Rattle.c_syntax.specs.declared.program.CPrim.TheVariants.{Back, Out};
-ghost use Rattle.c_lower.specs.Slots.{slot_of};
 ghost use Rattle.c_lower.specs.Glue as g;
-ghost use Rattle.c_lower.specs.Glue.{come_back, first_or_0, go_out, is_tracked_by, params_of, var_arg};
+ghost use Rattle.c_lower.specs.Glue.{first_or_0, go_out, is_tracked_by, params_of, var_arg};
 ghost use Rattle.c_lower.specs.Statements.{runtime_call};
 ghost use Rattle.c_lower_exprs.specs.Scopes.{IsScope, func_in, program_in};
 ghost use Rattle.c_lower_program.specs.Glue.Parts.{keys_moved, moves, owners_out, moved_by};

@@ -1,7 +1,6 @@
 //! The result of an external: its slots, the parts of the code that are made of it, and what goes to the caller.
 
 ghost use Rattle.std.specs.Prelude.{◌≡◌, ◌≤◌, ◌++◌, [], ◌∷◌, map, length, Some, OnOk, IfOk};
-ghost use Rattle.std.specs.Option.{option_map};
 ghost use Rattle.vlt_core.specs.View.{ty_of};
 ghost use Rattle.c_syntax.specs.View.{stmt_of};
 ghost use Rattle.c_lower.specs.Slots as s;

@@ -1,8 +1,7 @@
 //! The states that the host is asked for after a call.
 
 ghost use Rattle.std.specs.Prelude.{◌≡◌, ◌<◌, ◌++◌, ℕ, map, nat_lt, OnOk};
-ghost use Rattle.vlt_core.specs.Lookups.{after_set, is_held_after, states_of_key};
-ghost use Rattle.vlt_core.specs.KindedHeads.{is_bound_entry};
+ghost use Rattle.vlt_core.specs.Lookups.{after_set, states_of_key};
 ghost use Rattle.vlt_core.specs.View.{entry_of, func_of, program_of};
 ghost use Rattle.c_syntax.specs.View.{stmt_of};
 ghost use Rattle.c_lower_exprs.specs.Scopes.{func_in, program_in};

@@ -30,7 +30,7 @@ use Rattle.c_meaning.specs.Run as crun
 use Rattle.c_lower.specs.Slots.{Numbers, Sort, of_number, of_reference, of_owner, past, var_at, vars_at, slot_vars, slot_of, first_slot, sorted_slots, sorts_of, variant_sorts, first_temps}
 use Rattle.c_lower.specs.Guards.{whole}
 use Rattle.c_lower.specs.Expressions.{Atom, number, variable, null, atom_expr, first_atom, operand_code, operand_codes}
-use Rattle.c_lower.specs.Statements.{is_variant, variant_type, build_slots, atom_for, behind_first, case_positions, payload_in}
+use Rattle.c_lower.specs.Statements.{is_variant, variant_type, build_slots, atom_for, after_first, case_positions, payload_in}
 use Rattle.c_lower_worlds.specs.Operators.Codes.{AreUpTo}
 use Rattle.c_lower_worlds.proofs.OfOperators.Codes.{up_self, more_more, alike_self}
 use Rattle.c_lower_worlds.specs.Worlds.{Registers, c_world, c_part, case_value, case_values, variant_values, slot_values}
@@ -148,7 +148,7 @@ module _ (R : crun.Setup) (cm : crun.Meaning) where
 
   -- the case, and then the slots after it
   all_built : (u : Numbers) (ss : List Sort) (c : ℕ) (js : List ℕ) (atoms : List Atom) (parts : List Part) (F : crun.Frame) (w : cw.World) → Each (IsApart (vars_at u (of_number ∷ ss))) atoms → AreAtoms atoms parts F w.blocks →
-      Runs R cm (syntax.set (first_slot (vars_at u (of_number ∷ ss))) (whole c) ∷ build_slots 1 js atoms (behind_first (sorted_slots (of_number ∷ ss) (vars_at u (of_number ∷ ss)))))
+      Runs R cm (syntax.set (first_slot (vars_at u (of_number ∷ ss))) (whole c) ∷ build_slots 1 js atoms (after_first (sorted_slots (of_number ∷ ss) (vars_at u (of_number ∷ ss)))))
       F w (crun.goes (with_all (vars_at u (of_number ∷ ss)) (cw.number (pos c) ∷ case_values 1 js parts ss) F) w)
   all_built u ss c js atoms parts F w e h =
       let F1 = crun.with_var (var_at u of_number) (cw.number (pos c)) F in
@@ -330,7 +330,7 @@ module _ (p : Program) (fits : TypesFit p) (heap depth : ℕ) (R : crun.Setup) (
       js = case_positions p (variant_type f v) c
 
       rest : List syntax.Stmt
-      rest = syntax.set (slot_of p f v) (whole c) ∷ build_slots 1 js (map first_atom (operand_codes p f t os).atoms) (behind_first (Rattle.c_lower.specs.Slots.var_slots p f v))
+      rest = syntax.set (slot_of p f v) (whole c) ∷ build_slots 1 js (map first_atom (operand_codes p f t os).atoms) (after_first (Rattle.c_lower.specs.Slots.var_slots p f v))
 
       type_is : variant_type f v ≡ var.type
       type_is = ap (λ o. Rattle.c_lower.specs.Statements.variant_type_in (Rattle.vlt_core.specs.Lookups.variant_in o)) d.is ∙ ap Rattle.c_lower.specs.Statements.variant_type_in var.of_is
@@ -345,12 +345,12 @@ module _ (p : Program) (fits : TypesFit p) (heap depth : ℕ) (R : crun.Setup) (
           Runs R cm rest to W (crun.goes (with_all (slot_vars p f v) (slot_values p d.ty (of_case c parts ns)) to) W)
       built to W parts ns h =
           subst (λ vs. Runs R cm rest to W (crun.goes (with_all (slot_vars p f v) vs to) W)) (ap (λ t. variant_values_at t parts) type_is ∙ sym (var.values c parts ns))
-          (subst (λ ss. Runs R cm (code ss) to W (crun.goes (with_all (vars_at (starts p f v) ss) (cw.number (pos c) ∷ case_values 1 js parts (behind_first (variant_sorts p var.type))) to) W)) sorts_are
-          (all_built R cm (starts p f v) (behind_first (variant_sorts p var.type)) c js (map first_atom (operand_codes p f t os).atoms) parts to W
+          (subst (λ ss. Runs R cm (code ss) to W (crun.goes (with_all (vars_at (starts p f v) ss) (cw.number (pos c) ∷ case_values 1 js parts (after_first (variant_sorts p var.type))) to) W)) sorts_are
+          (all_built R cm (starts p f v) (after_first (variant_sorts p var.type)) c js (map first_atom (operand_codes p f t os).atoms) parts to W
           (subst (λ ss. Each (IsApart (vars_at (starts p f v) ss)) (map first_atom (operand_codes p f t os).atoms)) (sym sorts_are) apart) h))
         where
           code : List Sort → List syntax.Stmt
-          code ss = syntax.set (first_slot (vars_at (starts p f v) ss)) (whole c) ∷ build_slots 1 js (map first_atom (operand_codes p f t os).atoms) (behind_first (sorted_slots ss (vars_at (starts p f v) ss)))
+          code ss = syntax.set (first_slot (vars_at (starts p f v) ss)) (whole c) ∷ build_slots 1 js (map first_atom (operand_codes p f t os).atoms) (after_first (sorted_slots ss (vars_at (starts p f v) ss)))
 
           variant_values_at : ℕ → List Part → List cw.Value
-          variant_values_at t parts = cw.number (pos c) ∷ case_values 1 (case_positions p t c) parts (behind_first (variant_sorts p var.type))
+          variant_values_at t parts = cw.number (pos c) ∷ case_values 1 (case_positions p t c) parts (after_first (variant_sorts p var.type))

@@ -37,7 +37,7 @@ use Rattle.c_lower_worlds.proofs.VariableSlots.{starts}
 use Rattle.c_lower_worlds.proofs.SameSteps.{found_same, where_same, spares_self}
 use Rattle.c_lower_worlds.proofs.OfNaming.DeclaredVariables.{Declared, used_declared}
 use Rattle.c_lower_worlds.proofs.Targets.{arrives}
-use Rattle.c_lower_worlds.proofs.OfNaming.FoundObjects.{Refers, behind_ok, behind_faults}
+use Rattle.c_lower_worlds.proofs.OfNaming.FoundObjects.{Refers, after_ok, after_faults}
 use Rattle.c_lower_worlds.proofs.OfNaming.RuleFacts.{both_empty, none_of_both}
 use Rattle.vlt_core_laws.proofs.Unbroken.{unless_holds}
 use Rattle.c_lower_worlds.proofs.VariableValues.{slot_holds, typed, reference_to, types_kept}
@@ -100,9 +100,9 @@ module _ (p : Program) (types_fit : TypesFit p) (heap depth : ℕ) (R : crun.Set
       (λ a s w. step.with_found (touchable p f x i s w.objects) w (λ n. step.where_so (nat_lt i (length n.object.cells)) source.missing (Some n.number) w (λ w. step.goes s (step.with_changed w n.number (with_cell i a)))))
       (puts (touched_cells p f x i) (expr_code p f t e).atoms) is kinds.proper broken up (up_self t) h
       (λ a s2 w2 to l y.
-      found_same p f t k to (touchable p f x i s2 w2.objects) w2 _ _ (behind_faults (reference_of f x) (guarded_of f x) x (λ r. permitted_in p r.type i) s2 w2.objects) (λ o eo.
+      found_same p f t k to (touchable p f x i s2 w2.objects) w2 _ _ (after_faults (reference_of f x) (guarded_of f x) x (λ r. permitted_in p r.type i) s2 w2.objects) (λ o eo.
       where_same p f t k to (nat_lt i (length o.object.cells)) source.missing (Some o.number) w2 _ _ (λ there.
-      let r = behind_ok (reference_of f x) (guarded_of f x) x (λ r. permitted_in p r.type i) s2 w2.objects o eo in
+      let r = after_ok (reference_of f x) (guarded_of f x) x (λ r. permitted_in p r.type i) s2 w2.objects o eo in
       let type_is = object_type_is p f s2 w2 to g k x touched.ty touched.type o y.begins touched.is touched.refers r in
       let old = cell_there o.object.cells i there in
       let os = w2.objects in

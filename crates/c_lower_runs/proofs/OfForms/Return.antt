@@ -32,7 +32,7 @@ use Rattle.c_meaning.specs.Values as cvalues
 use Rattle.c_meaning.specs.Run as crun
 use Rattle.c_lower.specs.Slots.{Numbers, first_temps, vars_at, slot_sorts}
 use Rattle.c_lower.specs.Expressions.{Atom, variable, atom_expr, first_atom, operand_code}
-use Rattle.c_lower.specs.Statements.{return_stmts, rest_puts, behind_first, is_variant, return_code}
+use Rattle.c_lower.specs.Statements.{return_stmts, rest_puts, after_first, is_variant, return_code}
 use Rattle.c_lower_worlds.specs.Worlds.{c_part, Registers, AreRegisters, c_world, slot_values, numbers_in, references_in}
 use Rattle.c_lower_worlds.specs.Given.{IsFed}
 use Rattle.c_lower_worlds.specs.Shapes.{types_of, HasShape, AreShaped}
@@ -178,12 +178,12 @@ module _ (p : Program) (R : crun.Setup) (cm : crun.Meaning) (enough : RegistersS
   single_back ty a atoms f w g single first shape are have = record {
     value = Some first.value;
     registers = g;
-    runs = subst (λ b. Runs R cm ((if b then rest_puts (behind_first atoms) else []) ++ syntax.return (Some (atom_expr (first_atom atoms))) ∷ []) f (c_world p g w) (crun.leaves (Some first.value) (c_world p g w)))
+    runs = subst (λ b. Runs R cm ((if b then rest_puts (after_first atoms) else []) ++ syntax.return (Some (atom_expr (first_atom atoms))) ∷ []) f (c_world p g w) (crun.leaves (Some first.value) (c_world p g w)))
         (sym single) (returned R cm (atom_expr (first_atom atoms)) first.value f (c_world p g w) (first_has atoms (slot_values p ty a) f (c_world p g w).blocks first.value have first.is));
     gives = record {
       shape = shape;
       first = sym first.is;
-      rest = subst (λ b. InRegisters (if b then behind_first (slot_values p ty a) else []) g) (sym single)
+      rest = subst (λ b. InRegisters (if b then after_first (slot_values p ty a) else []) g) (sym single)
           (record { numbers = none_begins g.numbers; references = none_begins g.references });
     };
     are = are;
@@ -195,14 +195,14 @@ module _ (p : Program) (R : crun.Setup) (cm : crun.Meaning) (enough : RegistersS
   variant_back ty a atoms f w g many first shape are have vars = record {
     value = Some first.value;
     registers = put.registers;
-    runs = subst (λ b. Runs R cm ((if b then rest_puts (behind_first atoms) else []) ++ last) f (c_world p g w) (crun.leaves (Some first.value) (c_world p put.registers w)))
+    runs = subst (λ b. Runs R cm ((if b then rest_puts (after_first atoms) else []) ++ last) f (c_world p g w) (crun.leaves (Some first.value) (c_world p put.registers w)))
         (sym many)
-        (runs_then R cm (rest_puts (behind_first atoms)) last f f (c_world p g w) (c_world p put.registers w) (crun.leaves (Some first.value) (c_world p put.registers w)) put_runs
+        (runs_then R cm (rest_puts (after_first atoms)) last f f (c_world p g w) (c_world p put.registers w) (crun.leaves (Some first.value) (c_world p put.registers w)) put_runs
         (returned R cm (atom_expr (first_atom atoms)) first.value f (c_world p put.registers w) (first_has atoms values f (c_world p g w).blocks first.value have first.is)));
     gives = record {
       shape = shape;
       first = sym first.is;
-      rest = subst (λ b. InRegisters (if b then behind_first values else []) put.registers) (sym many) put.holds;
+      rest = subst (λ b. InRegisters (if b then after_first values else []) put.registers) (sym many) put.holds;
     };
     are = put.are;
   }
@@ -219,35 +219,35 @@ module _ (p : Program) (R : crun.Setup) (cm : crun.Meaning) (enough : RegistersS
       here : HaveValues slots values f
       here = vars_have slots values f (c_world p g w).blocks (subst (λ atoms. HaveAtoms atoms values f (c_world p g w).blocks) vars.are have)
 
-      tail_have : (vs : List CVar) (values : List cw.Value) → HaveValues vs values f → HaveValues (behind_first vs) (behind_first values) f
+      tail_have : (vs : List CVar) (values : List cw.Value) → HaveValues vs values f → HaveValues (after_first vs) (after_first values) f
       tail_have [] [] h = tt
       tail_have [] (a ∷ values) h = absurd h
       tail_have (v ∷ vs) [] h = absurd h
       tail_have (v ∷ vs) (a ∷ values) h = h.1
 
-      tail_fit : (vs : List CVar) (values : List cw.Value) → FitKinds vs values → FitKinds (behind_first vs) (behind_first values)
+      tail_fit : (vs : List CVar) (values : List cw.Value) → FitKinds vs values → FitKinds (after_first vs) (after_first values)
       tail_fit [] [] h = tt
       tail_fit [] (a ∷ values) h = absurd h
       tail_fit (v ∷ vs) [] h = absurd h
       tail_fit (v ∷ vs) (cw.number z ∷ values) h = h.1
       tail_fit (v ∷ vs) (cw.reference r ∷ values) h = h.1
 
-      tail_map : (vs : List CVar) → behind_first (map variable vs) ≡ map variable (behind_first vs)
+      tail_map : (vs : List CVar) → after_first (map variable vs) ≡ map variable (after_first vs)
       tail_map [] = refl
       tail_map (v ∷ vs) = refl
 
-      few : length (numbers_in (behind_first values)) ≤ 8
-      few = subst (λ b. length (numbers_in (if b then behind_first values else [])) ≤ 8) many (enough.numbers (types_of w.objects) ty a shape)
+      few : length (numbers_in (after_first values)) ≤ 8
+      few = subst (λ b. length (numbers_in (if b then after_first values else [])) ≤ 8) many (enough.numbers (types_of w.objects) ty a shape)
 
-      small : length (references_in (behind_first values)) ≤ 16
-      small = subst (λ b. length (references_in (if b then behind_first values else [])) ≤ 16) many (enough.references (types_of w.objects) ty a shape)
+      small : length (references_in (after_first values)) ≤ 16
+      small = subst (λ b. length (references_in (if b then after_first values else [])) ≤ 16) many (enough.references (types_of w.objects) ty a shape)
 
-      put : Put R cm p (behind_first slots) (behind_first values) f w g
-      put = rest_put R cm p (behind_first slots) (behind_first values) f w g are
+      put : Put R cm p (after_first slots) (after_first values) f w g
+      put = rest_put R cm p (after_first slots) (after_first values) f w g are
           (tail_fit slots values (slots_fit vars.from (slot_sorts p ty) values (shape_sorts p (types_of w.objects) ty a shape))) (tail_have slots values here) few small
 
-      put_runs : Runs R cm (rest_puts (behind_first atoms)) f (c_world p g w) (crun.goes f (c_world p put.registers w))
-      put_runs = subst (λ xs. Runs R cm (rest_puts xs) f (c_world p g w) (crun.goes f (c_world p put.registers w))) (sym (ap behind_first vars.are ∙ tail_map slots)) put.runs
+      put_runs : Runs R cm (rest_puts (after_first atoms)) f (c_world p g w) (crun.goes f (c_world p put.registers w))
+      put_runs = subst (λ xs. Runs R cm (rest_puts xs) f (c_world p g w) (crun.goes f (c_world p put.registers w))) (sym (ap after_first vars.are ∙ tail_map slots)) put.runs
 
   pub given_back : (ty : Ty) (a : source.Value) (atoms : List Atom) (f : crun.Frame) (w : source.World) (g : Registers) →
       HasShape p (types_of w.objects) ty a → AreRegisters g → HaveAtoms atoms (slot_values p ty a) f (c_world p g w).blocks →
@@ -301,7 +301,7 @@ module _ (p : Program) (R : crun.Setup) (cm : crun.Meaning) (enough : RegistersS
         (λ a s2 w2 to j h.
         let back = given_back ty a (operand_code p f t o).atoms to w2 g h.shape h.begins.registers (h.have to (c_world p g w2).blocks (alike_self (operand_code p f t o).next to)) h.variables in
         left_same f t k to (Some o) (Some a) s2 w2 back.registers back.value _
-        (subst (λ b. crun.does_stmts R cm j (stmts_made ((if b then rest_puts (behind_first (operand_code p f t o).atoms) else []) ++ syntax.return (Some (atom_expr (first_atom (operand_code p f t o).atoms))) ∷ [])) to (c_world p g w2) ≡ crun.leaves back.value (c_world p back.registers w2))
+        (subst (λ b. crun.does_stmts R cm j (stmts_made ((if b then rest_puts (after_first (operand_code p f t o).atoms) else []) ++ syntax.return (Some (atom_expr (first_atom (operand_code p f t o).atoms))) ∷ [])) to (c_world p g w2) ≡ crun.leaves back.value (c_world p back.registers w2))
         (sym alike) (back.runs j))
         (as_result (types_of w2.objects) a back.value back.registers back.gives) h.begins.shaped back.are h.begins.fuel_left h.begins.fed)
 

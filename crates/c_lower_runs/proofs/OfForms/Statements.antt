@@ -18,7 +18,7 @@ use Rattle.vlt_ops.specs.Operator.{is_true, bool_number, equals}
 use Rattle.vlt_core.specs.Core as core
 use Rattle.vlt_core.specs.Core.{Form, Block, block, Stmts, done, next, Arms, no_arms, arm, Func, Program}
 use Rattle.vlt_core.specs.KindedHeads.{Rules, unless}
-use Rattle.vlt_core.specs.KindedBodies.{ends, block_rows, form_rows, row_broken, list_broken, in_loop, ids_behind, ids_behind_block}
+use Rattle.vlt_core.specs.KindedBodies.{ends, block_rows, form_rows, row_broken, list_broken, in_loop, ids_following, ids_following_block}
 use Rattle.vlt_meaning.specs.World as source
 use Rattle.vlt_meaning.specs.Values.{number_of}
 use Rattle.vlt_meaning.specs.Step as step
@@ -89,7 +89,7 @@ module _ (p : Program) (kinded_p : IsKinded p) (types : TypesFit p) (numbers_rig
         (λ yes. earlier p f t k frame to _ _ (alike_spares (first_temps p f) t frame to alike)
         (block_a around ids t k s w to g (suc j) (record { rows = each_left (block_rows p f around ids a) _ kinded.rows; proper = and_left (is_proper_block a) (is_proper_block b) (and_right (is_proper e) (is_proper_block a && is_proper_block b) kinded.proper); scoped = kinded.scoped }) up le (alike_begins p f t k s w frame to g up alike h) scope))
         (λ no. earlier p f t k frame to _ _ (alike_spares (first_temps p f) t frame to alike)
-        (block_b around (ids_behind_block p f a ids) t k s w to g (suc j + crun.count_in (body_of (block_code p f t a))) (record { rows = each_right (block_rows p f around ids a) _ kinded.rows; proper = and_right (is_proper_block a) (is_proper_block b) (and_right (is_proper e) (is_proper_block a && is_proper_block b) kinded.proper); scoped = block_bound p f a ids kinded.scoped }) up le
+        (block_b around (ids_following_block p f a ids) t k s w to g (suc j + crun.count_in (body_of (block_code p f t a))) (record { rows = each_right (block_rows p f around ids a) _ kinded.rows; proper = and_right (is_proper_block a) (is_proper_block b) (and_right (is_proper e) (is_proper_block a && is_proper_block b) kinded.proper); scoped = block_bound p f a ids kinded.scoped }) up le
         (alike_begins p f t k s w frame to g up alike h)
         (record {
           known = block_known p f (ranged_of p kinded_p f is) a around ids ((each_left (block_rows p f around ids a) _ kinded.rows)) scope.known;
@@ -100,7 +100,7 @@ module _ (p : Program) (kinded_p : IsKinded p) (types : TypesFit p) (numbers_rig
         choice = syntax.choose (unequal (value_of (expr_code p f t e)) (whole 0)) (body_of (block_code p f t a)) (body_of (block_code p f t b)) ∷ []
 
         broken : value_broken p f ids (Some core.bool) e ≡ []
-        broken = (both_empty (value_broken p f ids (Some core.bool) e) _ (both_empty _ (list_broken p f [] (ids_behind_block p f a ids) b) kinded.row).left).left
+        broken = (both_empty (value_broken p f ids (Some core.bool) e) _ (both_empty _ (list_broken p f [] (ids_following_block p f a ids) b) kinded.row).left).left
 
     loop_same : (f : Func) (e : core.Expr) (b : Block) → IsFunction p f → IsSameBlock p setup R m cm n f b → IsSameFormIn p setup R m cm n f (core.loop e b)
     unfolding crun.with_found
@@ -184,15 +184,15 @@ module _ (p : Program) (kinded_p : IsKinded p) (types : TypesFit p) (numbers_rig
       list_same : (f : Func) (ss : Stmts) → IsFunction p f → AreSame p setup R m cm n f ss
       list_same f done is = λ around ids ended t k s w frame g i kinded up le h scope. goes_same h
       list_same f (next at form rest) is = λ around ids ended t k s w frame g i kinded up le h scope.
-          let row = (both_empty (unless (not ended) rule.BEHIND_END) (row_broken p f around ids form) kinded.rows.0).right in
+          let row = (both_empty (unless (not ended) rule.AFTER_END) (row_broken p f around ids form) kinded.rows.0).right in
           let mine = (each_left (form_rows p f around ids form) _ kinded.rows.1) in
           subst (Same p f t k frame _)
           (sym (both_run R cm (form_code p f t form).stmts (list_code p f t rest).stmts i frame (c_world p g w)))
-          (then_named p f t k frame ids (ids_behind p f form ids).vars s (run.does_form setup m f form s w) _ (run.does_stmts setup m f rest) _
+          (then_named p f t k frame ids (ids_following p f form ids).vars s (run.does_form setup m f form s w) _ (run.does_stmts setup m f rest) _
           (form_same f form is around ids t k s w frame g i
-          (record { row = (both_empty (unless (not ended) rule.BEHIND_END) (row_broken p f around ids form) kinded.rows.0).right; rows = each_left (form_rows p f around ids form) _ kinded.rows.1; proper = and_left (is_proper_form form) (are_proper rest) kinded.proper; scoped = kinded.scoped }) up le h scope)
+          (record { row = (both_empty (unless (not ended) rule.AFTER_END) (row_broken p f around ids form) kinded.rows.0).right; rows = each_left (form_rows p f around ids form) _ kinded.rows.1; proper = and_left (is_proper_form form) (are_proper rest) kinded.proper; scoped = kinded.scoped }) up le h scope)
           (form_named p kinded_p types heap depth m rest_named form f is around ids s w row mine scope)
-          (λ s2 w2 to2 g2 r h2 sp. list_same f rest is around (ids_behind p f form ids) (ends form) t k s2 w2 to2 g2 (i + crun.count_in (stmts_made (form_code p f t form).stmts))
+          (λ s2 w2 to2 g2 r h2 sp. list_same f rest is around (ids_following p f form ids) (ends form) t k s2 w2 to2 g2 (i + crun.count_in (stmts_made (form_code p f t form).stmts))
           (record { rows = each_right (form_rows p f around ids form) _ kinded.rows.1; proper = and_right (is_proper_form form) (are_proper rest) kinded.proper; scoped = form_bound p f form ids kinded.scoped }) up le h2
           (record { known = form_known p f (ranged_of p kinded_p f is) form around ids row mine scope.known; names = r.names })))
 

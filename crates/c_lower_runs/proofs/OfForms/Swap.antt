@@ -46,7 +46,7 @@ use Rattle.c_lower_worlds.proofs.BlockChanges.{block_there, live_block_is}
 use Rattle.c_lower_runs.proofs.OfForms.SetAndOwn.{other_slots}
 use Rattle.c_lower_runs.proofs.OfForms.Drop.{value_bare}
 use Rattle.c_lower_runs.proofs.OfForms.ExchangedObjects.{unmoved, lists_apart}
-use Rattle.c_lower_runs.proofs.OfForms.SwapSlots.{half, half_blocks, half_block, behind, slots_exchanged}
+use Rattle.c_lower_runs.proofs.OfForms.SwapSlots.{half, half_blocks, half_block, following, slots_exchanged}
 use Rattle.c_lower_worlds.proofs.FieldWriting.{counts_first, cell_shaped}
 use Rattle.c_lower_worlds.proofs.FrameChanges.{with_all, all_depth, all_glue, stands_set, stands_alike}
 use Rattle.c_lower_runs.proofs.OfForms.OpenFields.{field_unkeyed}
@@ -140,18 +140,18 @@ module _ (p : Program) (R : crun.Setup) (cm : crun.Meaning) (n : ℕ) (o : Objec
 
 code_is : (p : Program) (f : Func) (x i v : ℕ) (t : Numbers) (type : ℕ) (d : FieldDecl) (before : List Value) → slot_of p f x ≡ p_variable (slot_of p f x).number → object_type f x ≡ type → slice_get (fields_of p type) i ≡ Some d →
     AreOfSorts (field_sorts p (take i (fields_of p type))) before → slot_sorts p d.ty ≡ sorts_of p (var_type f v) →
-    swap_slots (p_variable (slot_of p f x).number) (vars_at t (slot_sorts p d.ty)) (cells_at (slot_of p f x).number (behind before) (slot_sorts p d.ty)) (sorted_slots (slot_sorts p d.ty) (vars_at (starts p f v) (slot_sorts p d.ty)))
+    swap_slots (p_variable (slot_of p f x).number) (vars_at t (slot_sorts p d.ty)) (cells_at (slot_of p f x).number (following before) (slot_sorts p d.ty)) (sorted_slots (slot_sorts p d.ty) (vars_at (starts p f v) (slot_sorts p d.ty)))
     ≡ swap_slots (slot_of p f x) (vars_at t (cell_sorts p f x i)) (touched_cells p f x i) (var_slots p f v)
 code_is p f x i v t type d before as_p at_type declared of sorts =
     let base = (slot_of p f x).number in
     let ss = slot_sorts p d.ty in
     let from = past_all first_numbers (field_sorts p (take i (fields_of p type))) in
     let sorts_are : cell_sorts p f x i ≡ ss = ap (λ t. sorts_at p t i) at_type ∙ ap (λ o. sorts_of_field p o) declared in
-    let cells_are : touched_cells p f x i ≡ cells_at base (behind before) ss =
+    let cells_are : touched_cells p f x i ≡ cells_at base (following before) ss =
     ap (λ t. field_cells p t i base) at_type ∙ ap (λ o. cells_at base from (sorts_of_field p o)) declared ∙ ap (λ from. cells_at base from ss) (counts_first (field_sorts p (take i (fields_of p type))) before of) in
-    ap (λ us. swap_slots (p_variable base) (vars_at t ss) (cells_at base (behind before) ss) (sorted_slots us (vars_at (starts p f v) us))) sorts
-    ∙ ap (λ b. swap_slots b (vars_at t ss) (cells_at base (behind before) ss) (var_slots p f v)) (sym as_p)
-    ∙ ap (λ us. swap_slots (slot_of p f x) (vars_at t us) (cells_at base (behind before) ss) (var_slots p f v)) (sym sorts_are)
+    ap (λ us. swap_slots (p_variable base) (vars_at t ss) (cells_at base (following before) ss) (sorted_slots us (vars_at (starts p f v) us))) sorts
+    ∙ ap (λ b. swap_slots b (vars_at t ss) (cells_at base (following before) ss) (var_slots p f v)) (sym as_p)
+    ∙ ap (λ us. swap_slots (slot_of p f x) (vars_at t us) (cells_at base (following before) ss) (var_slots p f v)) (sym sorts_are)
     ∙ ap (λ cs. swap_slots (slot_of p f x) (vars_at t (cell_sorts p f x i)) cs (var_slots p f v)) (sym cells_are)
 
 module _ (p : Program) (types_fit : TypesFit p) (heap depth : ℕ) (R : crun.Setup) (m : run.Meaning) (cm : crun.Meaning) (n : ℕ) where
@@ -255,8 +255,8 @@ module _ (p : Program) (types_fit : TypesFit p) (heap depth : ℕ) (R : crun.Set
               (subst (λ us. HaveCellShapes p us (fields_of p o.object.type) (slice_set o.object.cells i new)) (sym types_are)
               (subst (λ t. HaveCellShapes p ts (fields_of p t) (slice_set o.object.cells i new)) (sym type_is) (sp.shapes new new_shape))))) refl (λ q. q)
               (subst (λ xs. crun.does_stmts R cm j (stmts_made xs) frame (c_world p g w) ≡ crun.goes r.to (c_world p g w3)) code
-              (subst (λ bs. crun.does_stmts R cm j (stmts_made (swap_slots (p_variable base) (vars_at t ss) (cells_at base (behind sp.before) ss) (sorted_slots ss (vars_at u ss)))) frame (record (c_world p g w) { blocks = bs }) ≡ crun.goes r.to (c_world p g w3)) starts_half
-              (subst (λ bs. crun.does_stmts R cm j (stmts_made (swap_slots (p_variable base) (vars_at t ss) (cells_at base (behind sp.before) ss) (sorted_slots ss (vars_at u ss)))) frame (half p R cm o.number o.object held.free not_in not_loose (c_world p g w) os (sp.before ++ (olds ++ sp.after))) ≡ crun.goes r.to (record (c_world p g w) { blocks = bs })) ends_half (r.runs j))))
+              (subst (λ bs. crun.does_stmts R cm j (stmts_made (swap_slots (p_variable base) (vars_at t ss) (cells_at base (following sp.before) ss) (sorted_slots ss (vars_at u ss)))) frame (record (c_world p g w) { blocks = bs }) ≡ crun.goes r.to (c_world p g w3)) starts_half
+              (subst (λ bs. crun.does_stmts R cm j (stmts_made (swap_slots (p_variable base) (vars_at t ss) (cells_at base (following sp.before) ss) (sorted_slots ss (vars_at u ss)))) frame (half p R cm o.number o.object held.free not_in not_loose (c_world p g w) os (sp.before ++ (olds ++ sp.after))) ≡ crun.goes r.to (record (c_world p g w) { blocks = bs })) ends_half (r.runs j))))
             where
               differ : (q : Reference) (o : Named) (new : source.Value) (d : FieldDecl) (args : List ℕ) → HoldsObject x q.key s w.objects o → s.vars v ≡ Some new → is_owning d.ty ≡ true → HasShape p (types_of w.objects) d.ty new → (x == v) ≡ false
               differ q o new d args held value owns shape = by (x == v) refl

@@ -44,11 +44,11 @@ use Rattle.c_lower_worlds.proofs.CellWriting.{set_live, with_cells, number_put, 
 
 -- ---- cells after these values
 
-abbrev pub behind : List Value → Numbers
-behind vs = record { n = length (numbers_in vs); p = length (references_in vs) }
+abbrev pub following : List Value → Numbers
+following vs = record { n = length (numbers_in vs); p = length (references_in vs) }
 
-behind_one : (pre : List Value) (s : Sort) (v : Value) → IsOfSort s v → past (behind pre) s ≡ behind (pre ++ v ∷ [])
-behind_one pre s v h = by s v h
+after_one : (pre : List Value) (s : Sort) (v : Value) → IsOfSort s v → past (following pre) s ≡ following (pre ++ v ∷ [])
+after_one pre s v h = by s v h
   where
     longer : {A : Type 0} (xs : List A) (x : A) → suc (length xs) ≡ length (xs ++ x ∷ [])
     longer [] x = refl
@@ -58,11 +58,11 @@ behind_one pre s v h = by s v h
     same [] = refl
     same (y ∷ ys) = ap suc (same ys)
 
-    reference_more : (r : Option ℕ) → past (behind pre) of_reference ≡ behind (pre ++ reference r ∷ [])
+    reference_more : (r : Option ℕ) → past (following pre) of_reference ≡ following (pre ++ reference r ∷ [])
     reference_more r = ap (λ a. record { n = a; p = suc (length (references_in pre)) }) (same (numbers_in pre) ∙ ap length (sym (numbers_append pre (reference r ∷ []))))
         ∙ ap (λ b. record { n = length (numbers_in (pre ++ reference r ∷ [])); p = b }) (longer (references_in pre) (Some r) ∙ ap length (sym (references_append pre (reference r ∷ []))))
 
-    by : (s : Sort) (v : Value) → IsOfSort s v → past (behind pre) s ≡ behind (pre ++ v ∷ [])
+    by : (s : Sort) (v : Value) → IsOfSort s v → past (following pre) s ≡ following (pre ++ v ∷ [])
     by of_number (number z) h = ap (λ a. record { n = a; p = length (references_in pre) }) (longer (numbers_in pre) (Some z) ∙ ap length (sym (numbers_append pre (number z ∷ []))))
         ∙ ap (λ b. record { n = length (numbers_in (pre ++ number z ∷ [])); p = b }) (same (references_in pre) ∙ ap length (sym (references_append pre (number z ∷ []))))
     by of_number (reference r) h = absurd h
@@ -122,16 +122,16 @@ module _ (p : Program) (R : crun.Setup) (cm : crun.Meaning) (n : ℕ) (o : Objec
   -- ---- one cell
 
   cell_read : (base : ℕ) (s : Sort) (pre : List Value) (a : Value) (post : List Value) (vars : cw.Vars) (os : List Object) → IsOfSort s a → vars (p_variable base) ≡ Some (reference (Some n)) → slice_get os n ≡ Some o →
-      cell_value (cell_at base (behind pre) s) vars (half_blocks os (pre ++ a ∷ post)) ≡ Ok a
+      cell_value (cell_at base (following pre) s) vars (half_blocks os (pre ++ a ∷ post)) ≡ Ok a
   cell_read base s pre a post vars os h var at = by s a h
     where
-      reference_read : (r : Option ℕ) → cell_value (cell_at base (behind pre) of_reference) vars (half_blocks os (pre ++ reference r ∷ post)) ≡ Ok (reference r)
+      reference_read : (r : Option ℕ) → cell_value (cell_at base (following pre) of_reference) vars (half_blocks os (pre ++ reference r ∷ post)) ≡ Ok (reference r)
       reference_read r =
           let there : slice_get (references_in (pre ++ reference r ∷ post)) (length (references_in pre)) ≡ Some (Some r) =
           ap (λ xs. slice_get xs (length (references_in pre))) (references_append pre (reference r ∷ post)) ∙ get_mid (references_in pre) (Some r) (references_in post) in
           rw (var, half_live os (pre ++ reference r ∷ post) at, there) refl
 
-      by : (s : Sort) (a : Value) → IsOfSort s a → cell_value (cell_at base (behind pre) s) vars (half_blocks os (pre ++ a ∷ post)) ≡ Ok a
+      by : (s : Sort) (a : Value) → IsOfSort s a → cell_value (cell_at base (following pre) s) vars (half_blocks os (pre ++ a ∷ post)) ≡ Ok a
       by of_number (number z) h =
           let there : slice_get (numbers_in (pre ++ number z ∷ post)) (length (numbers_in pre)) ≡ Some (Some z) =
           ap (λ xs. slice_get xs (length (numbers_in pre))) (numbers_append pre (number z ∷ post)) ∙ get_mid (numbers_in pre) (Some z) (numbers_in post) in
@@ -154,21 +154,21 @@ module _ (p : Program) (R : crun.Setup) (cm : crun.Meaning) (n : ℕ) (o : Objec
 
   cell_written : (base : ℕ) (s : Sort) (pre : List Value) (a b : Value) (post : List Value) (e : syntax.Expr) (vars : cw.Vars) (w : cw.World) (os : List Object) → IsOfSort s a → IsOfSort s b →
       vars (p_variable base) ≡ Some (reference (Some n)) → slice_get os n ≡ Some o → ((bs : Blocks) → cvalues.value_of e vars bs ≡ Ok b) →
-      put_does (cell_at base (behind pre) s) e vars (half w os (pre ++ a ∷ post)) ≡ effect.nothing (half w os (pre ++ b ∷ post))
+      put_does (cell_at base (following pre) s) e vars (half w os (pre ++ a ∷ post)) ≡ effect.nothing (half w os (pre ++ b ∷ post))
   cell_written base s pre a b post e vars w os h k var at is = by s a b h k is
     where
       reference_written : (q r : Option ℕ) → ((bs : Blocks) → cvalues.value_of e vars bs ≡ Ok (reference r)) →
-          put_does (cell_at base (behind pre) of_reference) e vars (half w os (pre ++ reference q ∷ post)) ≡ effect.nothing (half w os (pre ++ reference r ∷ post))
+          put_does (cell_at base (following pre) of_reference) e vars (half w os (pre ++ reference q ∷ post)) ≡ effect.nothing (half w os (pre ++ reference r ∷ post))
       reference_written q r is =
-          subst (λ W. put_does (cell_at base (behind pre) of_reference) e vars W ≡ effect.nothing (half w os (pre ++ reference r ∷ post))) (sym (reference_half w os pre post q))
-          (subst (λ W. put_does (cell_at base (behind pre) of_reference) e vars (record w { blocks = with_cells (blocks_of p os) n None false (numbers_in pre ++ numbers_in post) (references_in pre ++ Some q ∷ references_in post) }) ≡ effect.nothing W) (sym (reference_half w os pre post r))
+          subst (λ W. put_does (cell_at base (following pre) of_reference) e vars W ≡ effect.nothing (half w os (pre ++ reference r ∷ post))) (sym (reference_half w os pre post q))
+          (subst (λ W. put_does (cell_at base (following pre) of_reference) e vars (record w { blocks = with_cells (blocks_of p os) n None false (numbers_in pre ++ numbers_in post) (references_in pre ++ Some q ∷ references_in post) }) ≡ effect.nothing W) (sym (reference_half w os pre post r))
           (reference_put (blocks_of p os) n None false _ (block_there p os n o (known os at)) base (length (numbers_in pre)) e r (numbers_in pre ++ numbers_in post) (references_in pre) (Some q) (references_in post) vars w var is))
 
       by : (s : Sort) (a b : Value) → IsOfSort s a → IsOfSort s b → ((bs : Blocks) → cvalues.value_of e vars bs ≡ Ok b) →
-          put_does (cell_at base (behind pre) s) e vars (half w os (pre ++ a ∷ post)) ≡ effect.nothing (half w os (pre ++ b ∷ post))
+          put_does (cell_at base (following pre) s) e vars (half w os (pre ++ a ∷ post)) ≡ effect.nothing (half w os (pre ++ b ∷ post))
       by of_number (number x) (number z) h k is =
-          subst (λ W. put_does (cell_at base (behind pre) of_number) e vars W ≡ effect.nothing (half w os (pre ++ number z ∷ post))) (sym (number_half w os pre post x))
-          (subst (λ W. put_does (cell_at base (behind pre) of_number) e vars (record w { blocks = with_cells (blocks_of p os) n None false (numbers_in pre ++ Some x ∷ numbers_in post) (references_in pre ++ references_in post) }) ≡ effect.nothing W) (sym (number_half w os pre post z))
+          subst (λ W. put_does (cell_at base (following pre) of_number) e vars W ≡ effect.nothing (half w os (pre ++ number z ∷ post))) (sym (number_half w os pre post x))
+          (subst (λ W. put_does (cell_at base (following pre) of_number) e vars (record w { blocks = with_cells (blocks_of p os) n None false (numbers_in pre ++ Some x ∷ numbers_in post) (references_in pre ++ references_in post) }) ≡ effect.nothing W) (sym (number_half w os pre post z))
           (number_put (blocks_of p os) n None false _ (block_there p os n o (known os at)) base e z (numbers_in pre) (Some x) (numbers_in post) (references_in pre ++ references_in post) vars w var is))
       by of_number (reference r) b h k is = absurd h
       by of_number (number x) (reference r) h k is = absurd k
@@ -243,10 +243,10 @@ module _ (p : Program) (R : crun.Setup) (cm : crun.Meaning) (n : ℕ) (o : Objec
   -- after the temp's assignment, and the owners' moves if it is an owner's
   slot_tail : (base : ℕ) (s : Sort) (temp v : CVar) (pre : List Value) (a b : Value) (post : List Value) (F : crun.Frame) (w : cw.World) (os : List Object) → IsOfSort s a → IsOfSort s b →
       F.vars (p_variable base) ≡ Some (reference (Some n)) → slice_get os n ≡ Some o → F.vars temp ≡ Some a → F.vars v ≡ Some b →
-      Runs R cm (syntax.put (cell_at base (behind pre) s) (syntax.variable v) ∷ syntax.set v (syntax.variable temp) ∷ []) F (half w os (pre ++ a ∷ post)) (crun.goes (crun.with_var v a F) (half w os (pre ++ b ∷ post)))
+      Runs R cm (syntax.put (cell_at base (following pre) s) (syntax.variable v) ∷ syntax.set v (syntax.variable temp) ∷ []) F (half w os (pre ++ a ∷ post)) (crun.goes (crun.with_var v a F) (half w os (pre ++ b ∷ post)))
   slot_tail base s temp v pre a b post F w os h k var at temp_is v_is =
-      runs_then R cm (syntax.put (cell_at base (behind pre) s) (syntax.variable v) ∷ []) (syntax.set v (syntax.variable temp) ∷ []) F F (half w os (pre ++ a ∷ post)) (half w os (pre ++ b ∷ post)) (crun.goes (crun.with_var v a F) (half w os (pre ++ b ∷ post)))
-      (put_runs R cm (cell_at base (behind pre) s) (syntax.variable v) F (half w os (pre ++ a ∷ post)) (half w os (pre ++ b ∷ post)) (cell_written base s pre a b post (syntax.variable v) F.vars w os h k var at (λ bs. rw v_is refl)))
+      runs_then R cm (syntax.put (cell_at base (following pre) s) (syntax.variable v) ∷ []) (syntax.set v (syntax.variable temp) ∷ []) F F (half w os (pre ++ a ∷ post)) (half w os (pre ++ b ∷ post)) (crun.goes (crun.with_var v a F) (half w os (pre ++ b ∷ post)))
+      (put_runs R cm (cell_at base (following pre) s) (syntax.variable v) F (half w os (pre ++ a ∷ post)) (half w os (pre ++ b ∷ post)) (cell_written base s pre a b post (syntax.variable v) F.vars w os h k var at (λ bs. rw v_is refl)))
       (set_runs R cm v (syntax.variable temp) a F (half w os (pre ++ b ∷ post)) (rw temp_is refl))
 
   -- what the frame has before a slot is exchanged
@@ -260,17 +260,17 @@ module _ (p : Program) (R : crun.Setup) (cm : crun.Meaning) (n : ℕ) (o : Objec
   exchanged temp v a F = crun.with_var v a (crun.with_var temp a F)
 
   plain_slot : (base : ℕ) (s : Sort) (temp v : CVar) (pre : List Value) (a b : Value) (post : List Value) (F : crun.Frame) (w : cw.World) (os : List Object) → IsOfSort s a → IsOfSort s b → IsReady base temp v b F → slice_get os n ≡ Some o →
-      Runs R cm (syntax.set temp (syntax.cell (cell_at base (behind pre) s)) ∷ syntax.put (cell_at base (behind pre) s) (syntax.variable v) ∷ syntax.set v (syntax.variable temp) ∷ []) F (half w os (pre ++ a ∷ post))
+      Runs R cm (syntax.set temp (syntax.cell (cell_at base (following pre) s)) ∷ syntax.put (cell_at base (following pre) s) (syntax.variable v) ∷ syntax.set v (syntax.variable temp) ∷ []) F (half w os (pre ++ a ∷ post))
       (crun.goes (exchanged temp v a F) (half w os (pre ++ b ∷ post)))
   plain_slot base s temp v pre a b post F w os h k ready at =
-      runs_then R cm (syntax.set temp (syntax.cell (cell_at base (behind pre) s)) ∷ []) (syntax.put (cell_at base (behind pre) s) (syntax.variable v) ∷ syntax.set v (syntax.variable temp) ∷ []) F (crun.with_var temp a F) (half w os (pre ++ a ∷ post)) (half w os (pre ++ a ∷ post)) (crun.goes (exchanged temp v a F) (half w os (pre ++ b ∷ post)))
-      (set_runs R cm temp (syntax.cell (cell_at base (behind pre) s)) a F (half w os (pre ++ a ∷ post)) (cell_read base s pre a post F.vars os h ready.var at))
+      runs_then R cm (syntax.set temp (syntax.cell (cell_at base (following pre) s)) ∷ []) (syntax.put (cell_at base (following pre) s) (syntax.variable v) ∷ syntax.set v (syntax.variable temp) ∷ []) F (crun.with_var temp a F) (half w os (pre ++ a ∷ post)) (half w os (pre ++ a ∷ post)) (crun.goes (exchanged temp v a F) (half w os (pre ++ b ∷ post)))
+      (set_runs R cm temp (syntax.cell (cell_at base (following pre) s)) a F (half w os (pre ++ a ∷ post)) (cell_read base s pre a post F.vars os h ready.var at))
       (slot_tail base s temp v pre a b post (crun.with_var temp a F) w os h k (var_kept temp a (p_variable base) F ready.base_apart ∙ ready.var) at (var_set temp a F) (var_kept temp a v F ready.v_apart ∙ ready.v_is))
 
   owner_slot : (base : ℕ) (temp v : CVar) (pre : List Value) (q r : Option ℕ) (post : List Value) (F : crun.Frame) (w : cw.World) (os mid after : List Object) → IsReady base temp v (reference r) F → slice_get os n ≡ Some o → slice_get mid n ≡ Some o → slice_get after n ≡ Some o →
       ((vs : List Value) → blocks_after_disown (half_blocks os vs) q ≡ Ok (half_blocks mid vs)) → ((vs : List Value) → blocks_after_own (half_blocks mid vs) r (Some n) ≡ Ok (half_blocks after vs)) →
-      Runs R cm (syntax.set temp (syntax.cell (cell_at base (behind pre) of_owner)) ∷ runtime_call prim.Disown (syntax.variable temp ∷ []) ∷ runtime_call prim.Own (syntax.variable v ∷ syntax.variable (p_variable base) ∷ []) ∷
-      syntax.put (cell_at base (behind pre) of_owner) (syntax.variable v) ∷ syntax.set v (syntax.variable temp) ∷ []) F (half w os (pre ++ reference q ∷ post))
+      Runs R cm (syntax.set temp (syntax.cell (cell_at base (following pre) of_owner)) ∷ runtime_call prim.Disown (syntax.variable temp ∷ []) ∷ runtime_call prim.Own (syntax.variable v ∷ syntax.variable (p_variable base) ∷ []) ∷
+      syntax.put (cell_at base (following pre) of_owner) (syntax.variable v) ∷ syntax.set v (syntax.variable temp) ∷ []) F (half w os (pre ++ reference q ∷ post))
       (crun.goes (exchanged temp v (reference q) F) (half w after (pre ++ reference r ∷ post)))
   unfolding on_reference on_references or_broken
   owner_slot base temp v pre q r post F w os mid after ready at at_mid at_after outs ins =
@@ -278,13 +278,13 @@ module _ (p : Program) (R : crun.Setup) (cm : crun.Meaning) (n : ℕ) (o : Objec
       let var1 = var_kept temp (reference q) (p_variable base) F ready.base_apart ∙ ready.var in
       let v1 = var_kept temp (reference q) v F ready.v_apart ∙ ready.v_is in
       let vs = pre ++ reference q ∷ post in
-      runs_then R cm (syntax.set temp (syntax.cell (cell_at base (behind pre) of_owner)) ∷ []) (runtime_call prim.Disown (syntax.variable temp ∷ []) ∷ runtime_call prim.Own (syntax.variable v ∷ syntax.variable (p_variable base) ∷ []) ∷
-      syntax.put (cell_at base (behind pre) of_owner) (syntax.variable v) ∷ syntax.set v (syntax.variable temp) ∷ []) F F1 (half w os vs) (half w os vs) (crun.goes (exchanged temp v (reference q) F) (half w after (pre ++ reference r ∷ post)))
-      (set_runs R cm temp (syntax.cell (cell_at base (behind pre) of_owner)) (reference q) F (half w os vs) (cell_read base of_owner pre (reference q) post F.vars os tt ready.var at))
+      runs_then R cm (syntax.set temp (syntax.cell (cell_at base (following pre) of_owner)) ∷ []) (runtime_call prim.Disown (syntax.variable temp ∷ []) ∷ runtime_call prim.Own (syntax.variable v ∷ syntax.variable (p_variable base) ∷ []) ∷
+      syntax.put (cell_at base (following pre) of_owner) (syntax.variable v) ∷ syntax.set v (syntax.variable temp) ∷ []) F F1 (half w os vs) (half w os vs) (crun.goes (exchanged temp v (reference q) F) (half w after (pre ++ reference r ∷ post)))
+      (set_runs R cm temp (syntax.cell (cell_at base (following pre) of_owner)) (reference q) F (half w os vs) (cell_read base of_owner pre (reference q) post F.vars os tt ready.var at))
       (runs_then R cm (runtime_call prim.Disown (syntax.variable temp ∷ []) ∷ []) (runtime_call prim.Own (syntax.variable v ∷ syntax.variable (p_variable base) ∷ []) ∷
-      syntax.put (cell_at base (behind pre) of_owner) (syntax.variable v) ∷ syntax.set v (syntax.variable temp) ∷ []) F1 F1 (half w os vs) (half w mid vs) (crun.goes (exchanged temp v (reference q) F) (half w after (pre ++ reference r ∷ post)))
+      syntax.put (cell_at base (following pre) of_owner) (syntax.variable v) ∷ syntax.set v (syntax.variable temp) ∷ []) F1 F1 (half w os vs) (half w mid vs) (crun.goes (exchanged temp v (reference q) F) (half w after (pre ++ reference r ∷ post)))
       (call_runs R cm prim.Disown (syntax.variable temp ∷ []) F1 (half w os vs) (half w mid vs) (rw (var_set temp (reference q) F, outs vs) refl))
-      (runs_then R cm (runtime_call prim.Own (syntax.variable v ∷ syntax.variable (p_variable base) ∷ []) ∷ []) (syntax.put (cell_at base (behind pre) of_owner) (syntax.variable v) ∷ syntax.set v (syntax.variable temp) ∷ []) F1 F1 (half w mid vs) (half w after vs)
+      (runs_then R cm (runtime_call prim.Own (syntax.variable v ∷ syntax.variable (p_variable base) ∷ []) ∷ []) (syntax.put (cell_at base (following pre) of_owner) (syntax.variable v) ∷ syntax.set v (syntax.variable temp) ∷ []) F1 F1 (half w mid vs) (half w after vs)
       (crun.goes (exchanged temp v (reference q) F) (half w after (pre ++ reference r ∷ post)))
       (call_runs R cm prim.Own (syntax.variable v ∷ syntax.variable (p_variable base) ∷ []) F1 (half w mid vs) (half w after vs) (rw (v1, var1, ins vs) refl))
       (slot_tail base of_owner temp v pre (reference q) (reference r) post F1 w after tt tt var1 at_after (var_set temp (reference q) F) v1)))
@@ -320,10 +320,10 @@ module _ (p : Program) (R : crun.Setup) (cm : crun.Meaning) (n : ℕ) (o : Objec
   -- one slot and then the others
   slot_then : (base : ℕ) (b t u : Numbers) (s : Sort) (ss : List Sort) (pre : List Value) (x y : Value) (olds news post : List Value) (F : crun.Frame) (w : cw.World) (os now after : List Object) → IsOfSort s x → IsOfSort s y → AreApart base b t u (s ∷ ss) →
       F.vars (p_variable base) ≡ Some (reference (Some n)) → HaveValues (vars_at u (s ∷ ss)) (y ∷ news) F →
-      Runs R cm (swap_slot (p_variable base) (var_at t s) (cell_at base (behind pre) s) (record { var = var_at u s; sort = s })) F (half w os (pre ++ x ∷ (olds ++ post))) (crun.goes (exchanged (var_at t s) (var_at u s) x F) (half w now (pre ++ y ∷ (olds ++ post)))) →
+      Runs R cm (swap_slot (p_variable base) (var_at t s) (cell_at base (following pre) s) (record { var = var_at u s; sort = s })) F (half w os (pre ++ x ∷ (olds ++ post))) (crun.goes (exchanged (var_at t s) (var_at u s) x F) (half w now (pre ++ y ∷ (olds ++ post)))) →
       ((pre2 : List Value) (F2 : crun.Frame) → F2.vars (p_variable base) ≡ Some (reference (Some n)) → HaveValues (vars_at (past u s) ss) news F2 →
-      Exchanged (past t s) (past u s) ss olds (stmts_of base (past t s) (past u s) (behind pre2) ss) F2 (half w now (pre2 ++ (olds ++ post))) (half w after (pre2 ++ (news ++ post)))) →
-      Exchanged t u (s ∷ ss) (x ∷ olds) (stmts_of base t u (behind pre) (s ∷ ss)) F (half w os (pre ++ ((x ∷ olds) ++ post))) (half w after (pre ++ ((y ∷ news) ++ post)))
+      Exchanged (past t s) (past u s) ss olds (stmts_of base (past t s) (past u s) (following pre2) ss) F2 (half w now (pre2 ++ (olds ++ post))) (half w after (pre2 ++ (news ++ post)))) →
+      Exchanged t u (s ∷ ss) (x ∷ olds) (stmts_of base t u (following pre) (s ∷ ss)) F (half w os (pre ++ ((x ∷ olds) ++ post))) (half w after (pre ++ ((y ∷ news) ++ post)))
   slot_then base b t u s ss pre x y olds news post F w os now after h k apart var have first rest =
       let temp = var_at t s in
       let v = var_at u s in
@@ -336,13 +336,13 @@ module _ (p : Program) (R : crun.Setup) (cm : crun.Meaning) (n : ℕ) (o : Objec
       (λ z q. sym (var_kept v x z F1 (apart_back v z q.0) ∙ var_kept temp x z F (temp_apart t s b z apart.up q.1)))
       (each_two (Apart v) (IsBelow b) (vars_at (past u s) ss) (slots_apart u (s ∷ ss)).0 below.1) in
       let r = rest (pre ++ y ∷ []) F2 var2 (have_same (vars_at (past u s) ss) news F F2 kept have.1) in
-      let here = subst (λ from. Runs R cm (stmts_of base (past t s) (past u s) from ss) F2 (half w now ((pre ++ y ∷ []) ++ (olds ++ post))) (crun.goes r.to (half w after ((pre ++ y ∷ []) ++ (news ++ post))))) (sym (behind_one pre s y k)) r.runs in
+      let here = subst (λ from. Runs R cm (stmts_of base (past t s) (past u s) from ss) F2 (half w now ((pre ++ y ∷ []) ++ (olds ++ post))) (crun.goes r.to (half w after ((pre ++ y ∷ []) ++ (news ++ post))))) (sym (after_one pre s y k)) r.runs in
       record {
         to = r.to;
-        runs = runs_then R cm (swap_slot (p_variable base) temp (cell_at base (behind pre) s) (record { var = v; sort = s })) (stmts_of base (past t s) (past u s) (past (behind pre) s) ss) F F2
+        runs = runs_then R cm (swap_slot (p_variable base) temp (cell_at base (following pre) s) (record { var = v; sort = s })) (stmts_of base (past t s) (past u s) (past (following pre) s) ss) F F2
             (half w os (pre ++ x ∷ (olds ++ post))) (half w now (pre ++ y ∷ (olds ++ post))) (crun.goes r.to (half w after (pre ++ y ∷ (news ++ post)))) first
-            (subst (λ vs. Runs R cm (stmts_of base (past t s) (past u s) (past (behind pre) s) ss) F2 (half w now vs) (crun.goes r.to (half w after (pre ++ y ∷ (news ++ post))))) (append_assoc pre (y ∷ []) (olds ++ post))
-            (subst (λ vs. Runs R cm (stmts_of base (past t s) (past u s) (past (behind pre) s) ss) F2 (half w now ((pre ++ y ∷ []) ++ (olds ++ post))) (crun.goes r.to (half w after vs))) (append_assoc pre (y ∷ []) (news ++ post)) here));
+            (subst (λ vs. Runs R cm (stmts_of base (past t s) (past u s) (past (following pre) s) ss) F2 (half w now vs) (crun.goes r.to (half w after (pre ++ y ∷ (news ++ post))))) (append_assoc pre (y ∷ []) (olds ++ post))
+            (subst (λ vs. Runs R cm (stmts_of base (past t s) (past u s) (past (following pre) s) ss) F2 (half w now ((pre ++ y ∷ []) ++ (olds ++ post))) (crun.goes r.to (half w after vs))) (append_assoc pre (y ∷ []) (news ++ post)) here));
         vars = λ z q. r.vars z q.1 ∙ all_alike (vars_at (past u s) ss) olds F2 (crun.with_var v x F) z (set_alike v x F1 F z (var_kept temp x z F q.0));
         depth = r.depth;
         is_glue = r.is_glue;
@@ -355,7 +355,7 @@ module _ (p : Program) (R : crun.Setup) (cm : crun.Meaning) (n : ℕ) (o : Objec
       F.vars (p_variable base) ≡ Some (reference (Some n)) → HaveValues (vars_at u ss) news F → slice_get os n ≡ Some o →
       objects_after_move (is_inside n) loose (owned_in_slots ss olds) os ≡ Ok mid → objects_after_move is_loose (inside n) (owned_in_slots ss news) mid ≡ Ok after →
       Each (λ y. Outside y (owned_in_slots ss olds)) (owned_in_slots ss news) →
-      Exchanged t u ss olds (stmts_of base t u (behind pre) ss) F (half w os (pre ++ (olds ++ post))) (half w after (pre ++ (news ++ post)))
+      Exchanged t u ss olds (stmts_of base t u (following pre) ss) F (half w os (pre ++ (olds ++ post))) (half w after (pre ++ (news ++ post)))
   slots_exchanged base b t u [] pre [] [] post F w os mid after apart h k var have at e i differ = record {
     to = F;
     runs = λ j. ap (λ os. crun.goes F (half w os (pre ++ post))) (ok_same os mid e ∙ ok_same mid after i);

@@ -13,7 +13,7 @@ use Rattle.vlt_core.specs.KindedHeads.{Rules, unless, when_some, has, are_apart}
 use Rattle.vlt_core.specs.KindedScopes.{Ids, Around, use_broken, binding_broken, fresh_broken, keys_broken, with_key, with_var, left_behind}
 use Rattle.vlt_core.specs.KindedOperands.{misfit}
 use Rattle.vlt_core.specs.KindedStatements.{is_tracked_type, variant_args, payload_types, payload_types_in, case_broken, is_variant_type}
-use Rattle.vlt_core.specs.KindedBodies.{arm_cases, switch_broken, arm_broken, arms_broken, arm_vars_broken, arms_rows, list_broken, owning_toks, with_vars, block_rows, ids_behind_block}
+use Rattle.vlt_core.specs.KindedBodies.{arm_cases, switch_broken, arm_broken, arms_broken, arm_vars_broken, arms_rows, list_broken, owning_toks, with_vars, block_rows, ids_following_block}
 use Rattle.vlt_core.specs.declared.rules.TheConstants as rule
 use Rattle.vlt_meaning.specs.World as source
 use Rattle.vlt_meaning.specs.World.{Part, one, of_case, Object, held, is_loose}
@@ -258,7 +258,7 @@ module _ (p : Program) (heap depth : ℕ) (R : crun.Setup) (m : run.Meaning) (cm
   arms_same f v around t k c type args d (arm a vs b arms) ids s w F g i blocks kinds at_args at_type declared shapes up le at have h r scope =
       subst (Same p f inner k F (if c.number == a then with_arm else run.does_arm setup m f c arms s w))
       (sym (when_is temp c.number a xs rest F (c_world p g w) i at))
-      (by (arms_same f v around t k c type args d arms (left_behind ids (ids_behind_block p f b (with_vars f vs ids))) s w F g j blocks.1 later at_args at_type declared shapes up le at have h r later_scope) (c.number == a) refl)
+      (by (arms_same f v around t k c type args d arms (left_behind ids (ids_following_block p f b (with_vars f vs ids))) s w F g j blocks.1 later at_args at_type declared shapes up le at have h r later_scope) (c.number == a) refl)
     where
       inner : Numbers
       inner = past t of_number
@@ -278,14 +278,14 @@ module _ (p : Program) (heap depth : ℕ) (R : crun.Setup) (m : run.Meaning) (cm
       with_arm : step.Step
       with_arm = step.with_filled f vs (map (λ x. one x) c.parts) s w (λ s. run.does_block setup m f b s w)
 
-      parts : Rattle.c_lower_worlds.proofs.OfNaming.RuleFacts.BothEmpty (arm_broken p f ids v a vs ++ list_broken p f (owning_toks f vs) (with_vars f vs ids) b) (arms_broken p f (left_behind ids (ids_behind_block p f b (with_vars f vs ids))) v arms)
-      parts = both_empty (arm_broken p f ids v a vs ++ list_broken p f (owning_toks f vs) (with_vars f vs ids) b) (arms_broken p f (left_behind ids (ids_behind_block p f b (with_vars f vs ids))) v arms) kinds.broken
+      parts : Rattle.c_lower_worlds.proofs.OfNaming.RuleFacts.BothEmpty (arm_broken p f ids v a vs ++ list_broken p f (owning_toks f vs) (with_vars f vs ids) b) (arms_broken p f (left_behind ids (ids_following_block p f b (with_vars f vs ids))) v arms)
+      parts = both_empty (arm_broken p f ids v a vs ++ list_broken p f (owning_toks f vs) (with_vars f vs ids) b) (arms_broken p f (left_behind ids (ids_following_block p f b (with_vars f vs ids))) v arms) kinds.broken
 
       vars_broken : arm_vars_broken f ids (payload_types p (variant_args (var_type f v)) a) vs ≡ []
       vars_broken = (both_empty (case_broken p a (length vs) (variant_args (var_type f v))) (arm_vars_broken f ids (payload_types p (variant_args (var_type f v)) a) vs)
           (both_empty (arm_broken p f ids v a vs) (list_broken p f (owning_toks f vs) (with_vars f vs ids) b) parts.left).left).right
 
-      later : AreKindedArms f around (left_behind ids (ids_behind_block p f b (with_vars f vs ids))) v arms
+      later : AreKindedArms f around (left_behind ids (ids_following_block p f b (with_vars f vs ids))) v arms
       later = record {
         broken = parts.right;
         rows = each_right (block_rows p f around (with_vars f vs ids) b) _ kinds.rows;
@@ -295,7 +295,7 @@ module _ (p : Program) (heap depth : ℕ) (R : crun.Setup) (m : run.Meaning) (cm
         apart = and_right (not (has (arm_cases arms) a)) (are_apart (arm_cases arms)) kinds.apart;
       }
 
-      later_scope : IsInScope f (left_behind ids (ids_behind_block p f b (with_vars f vs ids))) s
+      later_scope : IsInScope f (left_behind ids (ids_following_block p f b (with_vars f vs ids))) s
       later_scope = record { known = arm_known p f r vs b around ids ((each_left (block_rows p f around (with_vars f vs ids) b) _ kinds.rows)) scope.known; names = scope.names }
 
       by : Same p f inner k F (run.does_arm setup m f c arms s w) (crun.does_stmts R cm j (stmts_made rest) F (c_world p g w)) → (e : Bool) → (c.number == a) ≡ e →

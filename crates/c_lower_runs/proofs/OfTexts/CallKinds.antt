@@ -25,7 +25,7 @@ use Rattle.c_syntax.specs.Canonical.{declaration_of}
 use Rattle.c_syntax.specs.Kinds.{Wanted, head_of, param_wanted, type_of}
 use Rattle.c_lower.specs.Slots.{Sort, of_number, of_reference, of_owner, slot_sorts, var_sorts, Numbers, first_numbers, past, var_at, vars_at, slot_vars, param_slots}
 use Rattle.c_lower.specs.Expressions.{Atom, number, variable, null, atom_expr, atom_arg, first_atom, operand_code, operand_codes}
-use Rattle.c_lower.specs.Statements.{runtime_call, runtime_value, count_arg, is_variant, is_alike, is_reference_atom, result_gets, number_vars, reference_vars, results, behind_first, call_stmts, call_code, name_of, result_puts, rest_puts, return_stmts, return_code}
+use Rattle.c_lower.specs.Statements.{runtime_call, runtime_value, count_arg, is_variant, is_alike, is_reference_atom, result_gets, number_vars, reference_vars, results, after_first, call_stmts, call_code, name_of, result_puts, rest_puts, return_stmts, return_code}
 use Rattle.c_lower.specs.Lowering.{result_of}
 use Rattle.c_lower_worlds.specs.Operators.Codes.{AreUpTo}
 use Rattle.c_lower_worlds.specs.Naming.Lists.{Each}
@@ -104,13 +104,13 @@ vars_long a [] (v ∷ vs) h = absurd h
 vars_long a (s ∷ ss) [] h = absurd h
 vars_long a (s ∷ ss) (v ∷ vs) h = ap suc (vars_long a ss vs h.1)
 
-behind_long : {A : Type 0} (xs : List A) → length (behind_first xs) ≤ length xs
-behind_long [] = omega arith
-behind_long (x ∷ xs) = omega arith
+after_long : {A : Type 0} (xs : List A) → length (after_first xs) ≤ length xs
+after_long [] = omega arith
+after_long (x ∷ xs) = omega arith
 
-each_behind : {A : Type 0} (P : A → Type 0) (xs : List A) → Each P xs → Each P (behind_first xs)
-each_behind P [] h = tt
-each_behind P (x ∷ xs) h = h.1
+each_after : {A : Type 0} (P : A → Type 0) (xs : List A) → Each P xs → Each P (after_first xs)
+each_after P [] h = tt
+each_after P (x ∷ xs) h = h.1
 
 -- what each of a numbered list gives
 numbered_ruled : {A : Type 0} (a : Place) (l : Bool) (Q : A → Type 0) (go : ℕ × A → Stmt) (i : ℕ) (xs : List A) → i + length xs ≤ max_number → Each Q xs → ((k : ℕ) (x : A) → k ≤ max_number → Q x → IsRuled a l (go (k, x))) →
@@ -187,11 +187,11 @@ module _ (a : Place) (l : Bool) where
   pub given_ruled : (p : Program) (ty : Ty) (xs : List Atom) → length (slot_sorts p ty) ≤ max_number → a.scope.result ≡ result_of (Some ty) → AtomsFit a (slot_sorts p ty) xs → AllRuled a l (return_stmts (Some ty) xs)
   given_ruled p ty xs few result h =
       let s = first_sort p ty in
-      ruled_both a l (if is_variant (Some ty) then rest_puts (behind_first xs) else []) (c.return (Some (atom_expr (first_atom xs))) ∷ []) (by (is_variant (Some ty)))
+      ruled_both a l (if is_variant (Some ty) then rest_puts (after_first xs) else []) (c.return (Some (atom_expr (first_atom xs))) ∷ []) (by (is_variant (Some ty)))
       (subst (λ t. IsTyped a t (atom_expr (first_atom xs))) (sym (result ∙ s.gives)) (first_typed a s.first s.rest xs (subst (λ ss. AtomsFit a ss xs) s.is h)), tt)
     where
-      by : (b : Bool) → AllRuled a l (if b then rest_puts (behind_first xs) else [])
-      by true = rest_ruled (behind_first xs) (let n = behind_long xs in let m = atoms_long a (slot_sorts p ty) xs h in omega (arith, few, n, m)) (each_behind (IsAtom a) xs (each_atom a (slot_sorts p ty) xs h))
+      by : (b : Bool) → AllRuled a l (if b then rest_puts (after_first xs) else [])
+      by true = rest_ruled (after_first xs) (let n = after_long xs in let m = atoms_long a (slot_sorts p ty) xs h in omega (arith, few, n, m)) (each_after (IsAtom a) xs (each_atom a (slot_sorts p ty) xs h))
       by false = tt
 
 module _ (a : Place) (p : Program) (f : Func) (here : Here a p f) (heads : Heads a p f) (ids : Ids) (l : Bool) where
@@ -218,10 +218,10 @@ module _ (a : Place) (p : Program) (f : Func) (here : Here a p f) (heads : Heads
       let slot = first_fits a s.first s.rest (slot_vars p f v) (subst (λ ss. VarsFit a ss (slot_vars p f v)) (sym sorts ∙ s.is) vars) in
       ((slot.known, call, (head_for p g gf, heads.found g gf at, ap result_of h.result ∙ s.gives ∙ sym slot.type)), by (is_variant (var_type f v)) h.ty vars)
     where
-      by : (b : Bool) (ty : Ty) → VarsFit a (slot_sorts p ty) (slot_vars p f v) → AllRuled a l (if b then results (behind_first (slot_vars p f v)) else [])
+      by : (b : Bool) (ty : Ty) → VarsFit a (slot_sorts p ty) (slot_vars p f v) → AllRuled a l (if b then results (after_first (slot_vars p f v)) else [])
       by true ty vars =
-          results_ruled a l (behind_first (slot_vars p f v)) (let n = behind_long (slot_vars p f v) in let m = vars_long a (slot_sorts p ty) (slot_vars p f v) vars in let few = here.slots ty in omega (arith, few, n, m))
-          (each_behind (λ v. IsVar a (type_of v) v) (slot_vars p f v) (each_known a (slot_sorts p ty) (slot_vars p f v) vars))
+          results_ruled a l (after_first (slot_vars p f v)) (let n = after_long (slot_vars p f v) in let m = vars_long a (slot_sorts p ty) (slot_vars p f v) vars in let few = here.slots ty in omega (arith, few, n, m))
+          (each_after (λ v. IsVar a (type_of v) v) (slot_vars p f v) (each_known a (slot_sorts p ty) (slot_vars p f v) vars))
       by false ty vars = tt
 
   pub call_kinded : (t : Numbers) (g : ℕ) (target : Option ℕ) (keys : List ℕ) (os : List Operand) → are_proper_operands os ≡ true → call_broken p f ids (slice_get p.fns g) target keys os ≡ [] →

@@ -21,7 +21,7 @@ use Rattle.c_syntax.specs.C as c
 use Rattle.c_lower.specs.Slots.{Sort, of_number, of_reference, of_owner, slot_sorts, sorts_of, variant_sorts, Numbers, vars_at, slot_vars, slot_of, sorted_slots, var_slots, sorts_of_field, object_type, object_type_of, touched_cells, cell_sorts, payload_sort}
 use Rattle.c_lower.specs.Guards as g
 use Rattle.c_lower.specs.Expressions.{Atom, atom_expr, first_atom, operand_codes}
-use Rattle.c_lower.specs.Statements.{runtime_call, swap_slots, open_slots, owning_positions, open_fields, variant_type, case_positions, build_slots, behind_first, simple_code}
+use Rattle.c_lower.specs.Statements.{runtime_call, swap_slots, open_slots, owning_positions, open_fields, variant_type, case_positions, build_slots, after_first, simple_code}
 use Rattle.c_lower_worlds.specs.Operators.Codes.{AreUpTo}
 use Rattle.c_lower_worlds.specs.Naming.KindedParts.{is_proper_simple}
 use Rattle.c_lower_worlds.proofs.OfNaming.RuleFacts.{both_empty}
@@ -170,17 +170,17 @@ module _ (a : Place) (p : Program) (f : Func) (here : Here a p f) (ids : Ids) (l
       let payloads : ArePayloads case.decl.payload = here.types.payloads type k case.decl case.at in
       let placed = atoms_placed a p s.var.args (variant_sorts p type) js case.decl.payload codes.atoms payloads (case_sorts p type k case.decl case.at payloads) h.atoms_fit in
       let slots = slots_at a p f here v s in
-      ruled_both a l codes.stmts (c.set (slot_of p f v) (g.whole k) ∷ build_slots 1 (case_positions p (variant_type f v) k) atoms (behind_first (var_slots p f v))) h.stmts_ruled (
+      ruled_both a l codes.stmts (c.set (slot_of p f v) (g.whole k) ∷ build_slots 1 (case_positions p (variant_type f v) k) atoms (after_first (var_slots p f v))) h.stmts_ruled (
         set_ruled a l result.Number (slot_of p f v) (g.whole k) (case_slot a p f here v s) (refl, small_numeral k (here.cases type k case.decl case.at)),
-        subst (λ u. AllRuled a l (build_slots 1 (case_positions p u k) atoms (behind_first (var_slots p f v)))) (sym (type_at a p f v s))
-            (subst (λ ss. AllRuled a l (build_slots 1 js atoms (behind_first (sorted_slots ss (slot_vars p f v))))) (sym (ap (sorts_of p) s.is ∙ s.var.sorts))
-            (later (slot_vars p f v) (behind_first (variant_sorts p type)) js atoms placed slots)),
+        subst (λ u. AllRuled a l (build_slots 1 (case_positions p u k) atoms (after_first (var_slots p f v)))) (sym (type_at a p f v s))
+            (subst (λ ss. AllRuled a l (build_slots 1 js atoms (after_first (sorted_slots ss (slot_vars p f v))))) (sym (ap (sorts_of p) s.is ∙ s.var.sorts))
+            (later (slot_vars p f v) (after_first (variant_sorts p type)) js atoms placed slots)),
       )
     where
       one : (m : ℕ) → 1 + m ≡ suc m
       one m = omega arith
 
-      later : (vs : List CVar) (ss : List Sort) (js : List ℕ) (xs : List Atom) → Placed a (of_number ∷ ss) js xs → VarsFit a (of_number ∷ ss) vs → AllRuled a l (build_slots 1 js xs (behind_first (sorted_slots (of_number ∷ ss) vs)))
+      later : (vs : List CVar) (ss : List Sort) (js : List ℕ) (xs : List Atom) → Placed a (of_number ∷ ss) js xs → VarsFit a (of_number ∷ ss) vs → AllRuled a l (build_slots 1 js xs (after_first (sorted_slots (of_number ∷ ss) vs)))
       later [] ss js xs h k = absurd k
       later (v ∷ vs) ss js xs h k = builds_ruled a l (of_number ∷ ss) 1 js xs ss vs h k.1 (λ m s at. ap (slice_get (of_number ∷ ss)) (one m) ∙ at)
 

@@ -16,7 +16,7 @@ use Rattle.c_syntax.specs.Grammar.{HasNoText, IsCall}
 use Rattle.c_lower.specs.Slots.{Numbers, vars_at, slot_vars, slot_of, Slot, var_slots, is_owner_sort, cell_counts, field_cells, object_type, touched_cells, cell_sorts}
 use Rattle.c_lower.specs.Guards as g
 use Rattle.c_lower.specs.Expressions.{Atom, atom_expr, atom_arg, first_atom, expr_code, operand_code, operand_codes}
-use Rattle.c_lower.specs.Statements.{runtime_call, runtime_value, count_arg, field_puts, owner_atoms, make_code, owner_slots, swap_slot, swap_slots, open_slots, open_fields, owning_positions, variant_type, case_positions, atom_for, build_slots, behind_first, simple_code, is_variant, result_gets, number_vars, reference_vars, results, call_stmts, call_code, name_of, is_reference_atom, is_alike, result_puts, rest_puts, return_stmts, return_code}
+use Rattle.c_lower.specs.Statements.{runtime_call, runtime_value, count_arg, field_puts, owner_atoms, make_code, owner_slots, swap_slot, swap_slots, open_slots, open_fields, owning_positions, variant_type, case_positions, atom_for, build_slots, after_first, simple_code, is_variant, result_gets, number_vars, reference_vars, results, call_stmts, call_code, name_of, is_reference_atom, is_alike, result_puts, rest_puts, return_stmts, return_code}
 use Rattle.c_lower_worlds.proofs.OfOperators.Guards.{and_left, and_right}
 use Rattle.c_lower_runs.specs.Texts.Printable.{depth, is_shallow}
 use Rattle.c_lower_runs.proofs.OfTexts.Fitting.{Fits, AllFit, fits_both, fits_mapped, atom_no_text, atoms_no_text, set_atom, put_atom, set_one, return_fits, nothing_fits, call_fits, set_call_fits, runtime_fits, value_fits}
@@ -136,9 +136,9 @@ simple_fits p f room t (core.unpack x v) r h d = (variable_set room (slot_of p f
 simple_fits p f room t (core.build v k os) r h d =
     let args = operand_codes p f t os in
     fits_both room args.stmts
-    (c.set (slot_of p f v) (g.whole k) ∷ build_slots 1 (case_positions p (variant_type f v) k) (map first_atom args.atoms) (behind_first (var_slots p f v)))
+    (c.set (slot_of p f v) (g.whole k) ∷ build_slots 1 (case_positions p (variant_type f v) k) (map first_atom args.atoms) (after_first (var_slots p f v)))
     (operands_fit p f room t os r h d)
-    (set_one room (slot_of p f v) (g.whole k) tt refl, builds_fit room 1 (case_positions p (variant_type f v) k) (map first_atom args.atoms) (behind_first (var_slots p f v)))
+    (set_one room (slot_of p f v) (g.whole k) tt refl, builds_fit room 1 (case_positions p (variant_type f v) k) (map first_atom args.atoms) (after_first (var_slots p f v)))
 simple_fits p f room t (core.swap x i v) r h d = swaps_fit room (slot_of p f x) (vars_at t (cell_sorts p f x i)) (touched_cells p f x i) (var_slots p f v)
 simple_fits p f room t (core.open_into x vs) r h d =
     let is = owning_positions (fields_of p (object_type f x)) in
@@ -166,8 +166,8 @@ call_stmts_fit : (p : Program) (f : Func) (room : ℕ) (call : Call) (target : O
 call_stmts_fit p f room call None h = (call_fits room call h, tt)
 call_stmts_fit p f room call (Some v) h = (set_call_fits room (slot_of p f v) call h, by (is_variant (var_type f v)))
   where
-    by : (b : Bool) → AllFit room (if b then results (behind_first (slot_vars p f v)) else [])
-    by true = results_fit room (behind_first (slot_vars p f v))
+    by : (b : Bool) → AllFit room (if b then results (after_first (slot_vars p f v)) else [])
+    by true = results_fit room (after_first (slot_vars p f v))
     by false = tt
 
 pub call_code_fits : (p : Program) (f : Func) (room : ℕ) (t : Numbers) (g : ℕ) (target : Option ℕ) (os : List Operand) → 64 ≤ room → all_in_operands has_arities os ≡ true →
@@ -184,12 +184,12 @@ result_puts_fit room f atoms =
 
 pub return_stmts_fit : (room : ℕ) (ty : Option Ty) (atoms : List Atom) → AllFit room (return_stmts ty atoms)
 return_stmts_fit room ty atoms =
-    fits_both room (if is_variant ty then rest_puts (behind_first atoms) else []) (c.return (Some (atom_expr (first_atom atoms))) ∷ []) (by (is_variant ty)) (return_fits room (first_atom atoms), tt)
+    fits_both room (if is_variant ty then rest_puts (after_first atoms) else []) (c.return (Some (atom_expr (first_atom atoms))) ∷ []) (by (is_variant ty)) (return_fits room (first_atom atoms), tt)
   where
-    by : (b : Bool) → AllFit room (if b then rest_puts (behind_first atoms) else [])
+    by : (b : Bool) → AllFit room (if b then rest_puts (after_first atoms) else [])
     by true =
-        fits_both room (result_puts prim.PutN (filter (λ a. is_alike (is_reference_atom a) false) (behind_first atoms))) (result_puts prim.PutP (filter is_reference_atom (behind_first atoms)))
-        (result_puts_fit room prim.PutN (filter (λ a. is_alike (is_reference_atom a) false) (behind_first atoms))) (result_puts_fit room prim.PutP (filter is_reference_atom (behind_first atoms)))
+        fits_both room (result_puts prim.PutN (filter (λ a. is_alike (is_reference_atom a) false) (after_first atoms))) (result_puts prim.PutP (filter is_reference_atom (after_first atoms)))
+        (result_puts_fit room prim.PutN (filter (λ a. is_alike (is_reference_atom a) false) (after_first atoms))) (result_puts_fit room prim.PutP (filter is_reference_atom (after_first atoms)))
     by false = tt
 
 pub return_fit : (p : Program) (f : Func) (room : ℕ) (t : Numbers) (o : Option Operand) → 64 ≤ room → all_in_return has_arities o ≡ true → all_in_return is_shallow o ≡ true →

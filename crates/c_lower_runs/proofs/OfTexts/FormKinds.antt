@@ -10,7 +10,7 @@ use Rattle.vlt_core.specs.KindedHeads.{unless, when_some, is_payload_type}
 use Rattle.vlt_core.specs.KindedScopes.{Ids, Around, at_block_start, left_behind, with_var, use_broken, binding_broken, own_key}
 use Rattle.vlt_core.specs.KindedOperands.{misfit, value_broken}
 use Rattle.vlt_core.specs.KindedStatements as kinded
-use Rattle.vlt_core.specs.KindedBodies.{ends, in_loop, in_focus, with_focus, with_vars, owning_toks, switch_broken, arm_vars_broken, arm_broken, focus_broken, list_broken, arms_broken, row_broken, form_rows, block_rows, stmts_rows, arms_rows, ids_behind, ids_behind_block}
+use Rattle.vlt_core.specs.KindedBodies.{ends, in_loop, in_focus, with_focus, with_vars, owning_toks, switch_broken, arm_vars_broken, arm_broken, focus_broken, list_broken, arms_broken, row_broken, form_rows, block_rows, stmts_rows, arms_rows, ids_following, ids_following_block}
 use Rattle.vlt_core.specs.declared.rules.TheConstants as rule
 use Rattle.vlt_core_laws.proofs.Unbroken.{EachEmpty, each_left, each_right, unless_holds}
 use Rattle.c_syntax.specs.declared.program.CResult.TheVariants as result
@@ -128,7 +128,7 @@ module _ (a : Place) (p : Program) (f : Func) (here : Here a p f) (heads : Heads
     form_kinded l around ids t (core.simple s) j proper row rows m = simple_kinded a p f here ids l t s proper row m
     form_kinded l around ids t (core.call g target keys os) j proper row rows m = call_kinded a p f here heads ids l t g target keys os proper row m
     form_kinded l around ids t (core.choose e x y) j proper row rows m =
-        let b1 = both_empty (value_broken p f ids (Some core.bool) e) (list_broken p f [] ids x) (both_empty (value_broken p f ids (Some core.bool) e ++ list_broken p f [] ids x) (list_broken p f [] (ids_behind_block p f x ids) y) row).left in
+        let b1 = both_empty (value_broken p f ids (Some core.bool) e) (list_broken p f [] ids x) (both_empty (value_broken p f ids (Some core.bool) e ++ list_broken p f [] ids x) (list_broken p f [] (ids_following_block p f x ids) y) row).left in
         let code = expr_code p f t e in
         let yes = block_code p f t x in
         let no = block_code p f t y in
@@ -138,8 +138,8 @@ module _ (a : Place) (p : Program) (f : Func) (here : Here a p f) (heads : Heads
         ruled_both a l code.stmts (c.choose (g.unequal (value_of code) (g.whole 0)) (stmts_made yes.stmts) (stmts_made no.stmts) ∷ []) h.0 (
           (
             (refl, h.1, (refl, small_numeral 0 (omega arith))),
-            made_ruled a l yes.stmts (block_kinded l around ids t x j (and_left (is_proper_block x) (is_proper_block y) blocks) (each_left (block_rows p f around ids x) (block_rows p f around (ids_behind_block p f x ids) y) rows) (left_most yes.most no.most a.most inner)),
-            made_ruled a l no.stmts (block_kinded l around (ids_behind_block p f x ids) t y j (and_right (is_proper_block x) (is_proper_block y) blocks) (each_right (block_rows p f around ids x) (block_rows p f around (ids_behind_block p f x ids) y) rows) (right_most yes.most no.most a.most inner)),
+            made_ruled a l yes.stmts (block_kinded l around ids t x j (and_left (is_proper_block x) (is_proper_block y) blocks) (each_left (block_rows p f around ids x) (block_rows p f around (ids_following_block p f x ids) y) rows) (left_most yes.most no.most a.most inner)),
+            made_ruled a l no.stmts (block_kinded l around (ids_following_block p f x ids) t y j (and_right (is_proper_block x) (is_proper_block y) blocks) (each_right (block_rows p f around ids x) (block_rows p f around (ids_following_block p f x ids) y) rows) (right_most yes.most no.most a.most inner)),
           ),
           tt,
         )
@@ -211,10 +211,10 @@ module _ (a : Place) (p : Program) (f : Func) (here : Here a p f) (heads : Heads
         let first = form_code p f t form in
         let later = list_code p f t rest in
         ruled_both a l first.stmts later.stmts
-        (form_kinded l around ids t form j (and_left (is_proper_form form) (are_proper rest) proper) (both_empty (unless (not ended) rule.BEHIND_END) (row_broken p f around ids form) rows.0).right
-        (each_left (form_rows p f around ids form) (stmts_rows p f around (ids_behind p f form ids) (ends form) rest) rows.1) (left_most first.most later.most a.most m))
-        (list_kinded l around (ids_behind p f form ids) (ends form) t rest j (and_right (is_proper_form form) (are_proper rest) proper)
-        (each_right (form_rows p f around ids form) (stmts_rows p f around (ids_behind p f form ids) (ends form) rest) rows.1) (right_most first.most later.most a.most m))
+        (form_kinded l around ids t form j (and_left (is_proper_form form) (are_proper rest) proper) (both_empty (unless (not ended) rule.AFTER_END) (row_broken p f around ids form) rows.0).right
+        (each_left (form_rows p f around ids form) (stmts_rows p f around (ids_following p f form ids) (ends form) rest) rows.1) (left_most first.most later.most a.most m))
+        (list_kinded l around (ids_following p f form ids) (ends form) t rest j (and_right (is_proper_form form) (are_proper rest) proper)
+        (each_right (form_rows p f around ids form) (stmts_rows p f around (ids_following p f form ids) (ends form) rest) rows.1) (right_most first.most later.most a.most m))
 
     arms_kinded : (l : Bool) (around : Around) (ids : Ids) (t : Numbers) (v : ℕ) (s : VariantAt a p f v) (case : CVar) → IsVar a result.Number case → (arms : Arms) → (around.jumps ≡ true → l ≡ true) → are_proper_arms arms ≡ true →
         arms_broken p f ids v arms ≡ [] → EachEmpty (arms_rows p f around ids arms) → AreUpTo (arms_code p f t v case arms).most a.most → AllRuled a l (arms_code p f t v case arms).stmts
@@ -222,7 +222,7 @@ module _ (a : Place) (p : Program) (f : Func) (here : Here a p f) (heads : Heads
     arms_kinded l around ids t v s case known (core.arm k vs b arms) j proper row rows m =
         let body = block_code p f t b in
         let later = arms_code p f t v case arms in
-        let after = left_behind ids (ids_behind_block p f b (with_vars f vs ids)) in
+        let after = left_behind ids (ids_following_block p f b (with_vars f vs ids)) in
         let b2 = both_empty (arm_broken p f ids v k vs ++ list_broken p f (owning_toks f vs) (with_vars f vs ids) b) (arms_broken p f after v arms) row in
         let b1 = both_empty (arm_broken p f ids v k vs) (list_broken p f (owning_toks f vs) (with_vars f vs ids) b) b2.left in (
           arm_ruled l ids v s case k vs body.stmts known b1.left

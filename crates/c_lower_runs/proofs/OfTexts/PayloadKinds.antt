@@ -8,7 +8,7 @@ use Rattle.vlt_core.specs.Lookups.{is_owning, case_at}
 use Rattle.vlt_core.specs.Widths.{is_number, is_guarded, most_of}
 use Rattle.vlt_core.specs.KindedHeads.{is_payload_type}
 use Rattle.c_syntax.specs.declared.program.CVar.{CVar}
-use Rattle.c_lower.specs.Slots.{Sort, of_number, of_reference, of_owner, variant_sorts, sorted_slots, Starts, start_of, behind_start, payload_sort, payload_positions, variant_starts}
+use Rattle.c_lower.specs.Slots.{Sort, of_number, of_reference, of_owner, variant_sorts, sorted_slots, Starts, start_of, after_start, payload_sort, payload_positions, variant_starts}
 use Rattle.c_lower.specs.Expressions.{Atom, atom_expr}
 use Rattle.c_lower.specs.Statements.{case_positions, payload_in, atom_for, build_slots}
 use Rattle.c_lower_worlds.proofs.VariantSlots.{Inside, Zone, inside, length_replicate}
@@ -68,21 +68,21 @@ zones n r o of_owner i z =
 -- the next payload lies in the zone of its sort, and the others after it
 record IsNextPlace (t : Ty) (s : Starts) (ts : List Ty) (a b c : ℕ) : Type 0 where
   here : Zone (payload_sort t) a b c (start_of (payload_sort t) s)
-  rest : Inside (behind_start (payload_sort t) s) ts a b c
+  rest : Inside (after_start (payload_sort t) s) ts a b c
 
 next_place : (t : Ty) (s : Starts) (ts : List Ty) (a b c : ℕ) → is_payload_type t ≡ true → Inside s (t ∷ ts) a b c → IsNextPlace t s ts a b c
 next_place core.int s ts a b c e h =
-    let n = h.numbers in let bn = h.behind_numbers in let r = h.references in let br = h.behind_references in let o = h.owners in
-    record { here = omega arith; rest = record { numbers = omega arith; behind_numbers = bn; references = r; behind_references = br; owners = o } }
+    let n = h.numbers in let bn = h.after_numbers in let r = h.references in let br = h.after_references in let o = h.owners in
+    record { here = omega arith; rest = record { numbers = omega arith; after_numbers = bn; references = r; after_references = br; owners = o } }
 next_place core.bool s ts a b c e h =
-    let n = h.numbers in let bn = h.behind_numbers in let r = h.references in let br = h.behind_references in let o = h.owners in
-    record { here = omega arith; rest = record { numbers = omega arith; behind_numbers = bn; references = r; behind_references = br; owners = o } }
+    let n = h.numbers in let bn = h.after_numbers in let r = h.references in let br = h.after_references in let o = h.owners in
+    record { here = omega arith; rest = record { numbers = omega arith; after_numbers = bn; references = r; after_references = br; owners = o } }
 next_place (core.guarded k t args) s ts a b c e h =
-    let n = h.numbers in let bn = h.behind_numbers in let r = h.references in let br = h.behind_references in let o = h.owners in
-    record { here = record { from = bn; below = omega arith }; rest = record { numbers = n; behind_numbers = omega arith; references = omega arith; behind_references = br; owners = o } }
+    let n = h.numbers in let bn = h.after_numbers in let r = h.references in let br = h.after_references in let o = h.owners in
+    record { here = record { from = bn; below = omega arith }; rest = record { numbers = n; after_numbers = omega arith; references = omega arith; after_references = br; owners = o } }
 next_place (core.owning states t args) s ts a b c e h =
-    let n = h.numbers in let bn = h.behind_numbers in let r = h.references in let br = h.behind_references in let o = h.owners in
-    record { here = record { from = br; below = omega arith }; rest = record { numbers = n; behind_numbers = bn; references = r; behind_references = omega arith; owners = omega arith } }
+    let n = h.numbers in let bn = h.after_numbers in let r = h.references in let br = h.after_references in let o = h.owners in
+    record { here = record { from = br; below = omega arith }; rest = record { numbers = n; after_numbers = bn; references = r; after_references = omega arith; owners = omega arith } }
 next_place (core.tracked k t args) s ts a b c e h = absurd (false≢true e)
 next_place (core.variant t args) s ts a b c e h = absurd (false≢true e)
 next_place (core.owning_variant t args) s ts a b c e h = absurd (false≢true e)
@@ -101,7 +101,7 @@ positions_sorts : (n r o : ℕ) (ts : List Ty) (s : Starts) → ArePayloads ts �
 positions_sorts n r o [] s all h = tt
 positions_sorts n r o (t ∷ ts) s all h =
     let next = next_place t s ts n (n + r) (n + r + o) (all 0 t refl) h in
-    (zones n r o (payload_sort t) (start_of (payload_sort t) s) next.here, positions_sorts n r o ts (behind_start (payload_sort t) s) (λ j ty at. all (suc j) ty at) next.rest)
+    (zones n r o (payload_sort t) (start_of (payload_sort t) s) next.here, positions_sorts n r o ts (after_start (payload_sort t) s) (λ j ty at. all (suc j) ty at) next.rest)
 
 -- the positions of a case's payloads
 pub case_sorts : (p : Program) (t k : ℕ) (d : CaseDecl) → case_at p t k ≡ Some d → ArePayloads d.payload → SortsAt (variant_sorts p t) (case_positions p t k) d.payload

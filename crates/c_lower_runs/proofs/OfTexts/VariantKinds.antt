@@ -13,7 +13,7 @@ use Rattle.vlt_core.specs.declared.rules.TheConstants as rule
 use Rattle.vlt_core_laws.proofs.Unbroken.{unless_holds, filled_not_empty}
 use Rattle.c_syntax.specs.declared.program.CResult.TheVariants as result
 use Rattle.c_lower.specs.Slots.{of_number, slot_sorts, variant_sorts, slot_vars, slot_of}
-use Rattle.c_lower.specs.Statements.{variant_type, variant_type_in, behind_first}
+use Rattle.c_lower.specs.Statements.{variant_type, variant_type_in, after_first}
 use Rattle.c_lower_runs.proofs.OfTexts.Ruled.{Place, IsVar}
 use Rattle.c_lower_runs.proofs.OfTexts.SlotTypes.{VarsFit, typed_slots_fit, first_fits}
 use Rattle.c_lower_runs.proofs.OfTexts.ExpressionKinds.{Here}
@@ -92,4 +92,4 @@ module _ (a : Place) (p : Program) (f : Func) where
 
     -- the slot of the case
     pub case_slot : (v : ℕ) → VariantAt v → IsVar a result.Number (slot_of p f v)
-    case_slot v s = first_fits a of_number (behind_first (variant_sorts p s.var.type)) (slot_vars p f v) (slots_at v s)
+    case_slot v s = first_fits a of_number (after_first (variant_sorts p s.var.type)) (slot_vars p f v) (slots_at v s)

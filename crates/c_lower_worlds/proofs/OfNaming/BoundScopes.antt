@@ -6,7 +6,7 @@ use Rattle.vlt_core.specs.KindedHeads.{has}
 use Rattle.vlt_core.specs.KindedScopes.{Ids, at_block_start, left_behind, with_key, with_var, with_tokens, with_binding, with_target, own_key}
 use Rattle.vlt_core.specs.KindedStatements.{ids_after, with_bindings}
 use Rattle.vlt_core.specs.KindedCalls.{with_call_target, is_fresh_call}
-use Rattle.vlt_core.specs.KindedBodies.{with_vars, with_focus, ids_behind, ids_behind_block, ids_behind_stmts, ids_behind_arms}
+use Rattle.vlt_core.specs.KindedBodies.{with_vars, with_focus, ids_following, ids_following_block, ids_following_stmts, ids_following_arms}
 use Rattle.c_lower_worlds.specs.Naming.KindedParts.{IsBound}
 
 -- a later scope: what was ever bound was bound still
@@ -106,40 +106,40 @@ vars_widen f (v ∷ vs) ids = widens_more (var_widens f v ids) (vars_widen f vs 
 
 module _ (p : Program) (f : Func) where
   abbrev mutual
-    form_widens : (form : Form) (ids : Ids) → Widens ids (ids_behind p f form ids)
+    form_widens : (form : Form) (ids : Ids) → Widens ids (ids_following p f form ids)
     form_widens (core.simple s) ids = simple_widens f s ids
     form_widens (core.call g target keys args) ids = call_widens f (slice_get p.fns g) target ids
-    form_widens (core.choose e a b) ids = widens_more (block_widens a ids) (block_widens b (ids_behind_block p f a ids))
+    form_widens (core.choose e a b) ids = widens_more (block_widens a ids) (block_widens b (ids_following_block p f a ids))
     form_widens (core.loop e b) ids = block_widens b ids
     form_widens (core.switch v arms end) ids = arms_widen arms ids
     form_widens (core.focus y z b) ids =
-        left_widens ids (ids_behind_block p f b (with_focus f z ids)) (widens_more (focus_widens f z ids) (block_widens b (with_focus f z ids)))
+        left_widens ids (ids_following_block p f b (with_focus f z ids)) (widens_more (focus_widens f z ids) (block_widens b (with_focus f z ids)))
     form_widens (core.scope b) ids = block_widens b ids
     form_widens (core.return value) ids = widens_self ids
     form_widens (core.jump c) ids = widens_self ids
 
-    block_widens : (b : Block) (ids : Ids) → Widens ids (ids_behind_block p f b ids)
+    block_widens : (b : Block) (ids : Ids) → Widens ids (ids_following_block p f b ids)
     block_widens (block ss bound end) ids =
-        left_widens ids (ids_behind_stmts p f ss (at_block_start ids)) (widens_more (start_widens ids) (stmts_widen ss (at_block_start ids)))
+        left_widens ids (ids_following_stmts p f ss (at_block_start ids)) (widens_more (start_widens ids) (stmts_widen ss (at_block_start ids)))
 
-    stmts_widen : (ss : Stmts) (ids : Ids) → Widens ids (ids_behind_stmts p f ss ids)
+    stmts_widen : (ss : Stmts) (ids : Ids) → Widens ids (ids_following_stmts p f ss ids)
     stmts_widen done ids = widens_self ids
-    stmts_widen (next at s rest) ids = widens_more (form_widens s ids) (stmts_widen rest (ids_behind p f s ids))
+    stmts_widen (next at s rest) ids = widens_more (form_widens s ids) (stmts_widen rest (ids_following p f s ids))
 
-    arms_widen : (arms : Arms) (ids : Ids) → Widens ids (ids_behind_arms p f arms ids)
+    arms_widen : (arms : Arms) (ids : Ids) → Widens ids (ids_following_arms p f arms ids)
     arms_widen no_arms ids = widens_self ids
     arms_widen (arm c vs b rest) ids =
-        widens_more (left_widens ids (ids_behind_block p f b (with_vars f vs ids)) (widens_more (vars_widen f vs ids) (block_widens b (with_vars f vs ids))))
-        (arms_widen rest (left_behind ids (ids_behind_block p f b (with_vars f vs ids))))
+        widens_more (left_widens ids (ids_following_block p f b (with_vars f vs ids)) (widens_more (vars_widen f vs ids) (block_widens b (with_vars f vs ids))))
+        (arms_widen rest (left_behind ids (ids_following_block p f b (with_vars f vs ids))))
 
-  pub form_bound : (form : Form) (ids : Ids) → IsBound ids → IsBound (ids_behind p f form ids)
+  pub form_bound : (form : Form) (ids : Ids) → IsBound ids → IsBound (ids_following p f form ids)
   form_bound form ids h = (form_widens form ids).keeps h
 
-  pub block_bound : (b : Block) (ids : Ids) → IsBound ids → IsBound (ids_behind_block p f b ids)
+  pub block_bound : (b : Block) (ids : Ids) → IsBound ids → IsBound (ids_following_block p f b ids)
   block_bound b ids h = (block_widens b ids).keeps h
 
   pub focus_bound : (z : ℕ) (ids : Ids) → IsBound ids → IsBound (with_focus f z ids)
   focus_bound z ids h = (focus_widens f z ids).keeps h
 
-  pub arm_widens : (vs : List ℕ) (b : Block) (ids : Ids) → Widens ids (left_behind ids (ids_behind_block p f b (with_vars f vs ids)))
-  arm_widens vs b ids = left_widens ids (ids_behind_block p f b (with_vars f vs ids)) (widens_more (vars_widen f vs ids) (block_widens b (with_vars f vs ids)))
+  pub arm_widens : (vs : List ℕ) (b : Block) (ids : Ids) → Widens ids (left_behind ids (ids_following_block p f b (with_vars f vs ids)))
+  arm_widens vs b ids = left_widens ids (ids_following_block p f b (with_vars f vs ids)) (widens_more (vars_widen f vs ids) (block_widens b (with_vars f vs ids)))

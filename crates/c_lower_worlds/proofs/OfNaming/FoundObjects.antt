@@ -7,7 +7,7 @@ use Rattle.vlt_meaning.specs.World as source
 use Rattle.vlt_meaning.specs.World.{Value, one, reference, Owner, held, lent, loose, inside, adopted_by, out, gone, above, is_gone, is_out, is_held_under, is_adopted_by, Object, Frame, Reason, Outcome}
 use Rattle.vlt_meaning.specs.Found.{Found, ◌>>=◌, or_fault, Named, if_so}
 use Rattle.vlt_meaning.specs.Objects.{object_at, named_in, in_states}
-use Rattle.vlt_meaning.specs.Values.{held_object, reference_in, tracked_object, object_of, guarded_object, object_behind}
+use Rattle.vlt_meaning.specs.Values.{held_object, reference_in, tracked_object, object_of, guarded_object, object_after}
 
 -- what isn't found is a fault
 abbrev pub OnlyFaults : {A : Type 0} → Found A → Type 0
@@ -179,15 +179,15 @@ guarded_ok g y s objects m e =
       adopted = owner;
     }
 
-pub behind_ok : (r g : Option Reference) (x : ℕ) (states : Reference → States) (s : Frame) (objects : List Object) (m : Named) →
-    object_behind r g x states s objects ≡ Ok m → Refers x s objects m
-behind_ok (Some r) g x states s objects m e =
+pub after_ok : (r g : Option Reference) (x : ℕ) (states : Reference → States) (s : Frame) (objects : List Object) (m : Named) →
+    object_after r g x states s objects ≡ Ok m → Refers x s objects m
+after_ok (Some r) g x states s objects m e =
     let a = then_ok _ _ m e in
     subst (Refers x s objects) (in_states_ok (states r) a.found m a.second) (tracked_ok r x s objects a.found a.first).refers
-behind_ok None (Some g) x states s objects m e =
+after_ok None (Some g) x states s objects m e =
     let a = then_ok _ _ m e in
     subst (Refers x s objects) (in_states_ok (states g) a.found m a.second) (guarded_ok g x s objects a.found a.first).refers
-behind_ok None None x states s objects m e = absurd (err_ok (source.fault source.missing None) m e)
+after_ok None None x states s objects m e = absurd (err_ok (source.fault source.missing None) m e)
 
 -- ---- what isn't found is a fault
 
@@ -235,8 +235,8 @@ guarded_faults g y s objects =
     then_faults _ _ (held_faults g.key s objects)
     (λ a. then_faults _ _ (reference_faults (s.vars y)) (λ n. then_faults _ _ (object_faults objects n) (λ m. if_so_faults _ source.not_guarded m)))
 
-pub behind_faults : (r g : Option Reference) (x : ℕ) (states : Reference → States) (s : Frame) (objects : List Object) →
-    OnlyFaults (object_behind r g x states s objects)
-behind_faults (Some r) g x states s objects = then_faults _ _ (tracked_faults r x s objects) (λ m. if_so_faults _ source.wrong_state m)
-behind_faults None (Some g) x states s objects = then_faults _ _ (guarded_faults g x s objects) (λ m. if_so_faults _ source.wrong_state m)
-behind_faults None None x states s objects = refl
+pub after_faults : (r g : Option Reference) (x : ℕ) (states : Reference → States) (s : Frame) (objects : List Object) →
+    OnlyFaults (object_after r g x states s objects)
+after_faults (Some r) g x states s objects = then_faults _ _ (tracked_faults r x s objects) (λ m. if_so_faults _ source.wrong_state m)
+after_faults None (Some g) x states s objects = then_faults _ _ (guarded_faults g x s objects) (λ m. if_so_faults _ source.wrong_state m)
+after_faults None None x states s objects = refl

@@ -12,7 +12,7 @@ use Rattle.vlt_core.specs.Kinded.{IsKinded}
 use Rattle.vlt_core.specs.KindedHeads.{has, keys_of_parameters, keys_of_result}
 use Rattle.vlt_core.specs.KindedScopes.{Ids, Around, at_block_start, left_behind, with_key, with_var, with_binding, own_key, binding_broken}
 use Rattle.vlt_core.specs.KindedOperands.{misfit}
-use Rattle.vlt_core.specs.KindedBodies.{with_vars, with_focus, arm_vars_broken, focus_broken, first_ids, ids_behind, ids_behind_block, row_broken, form_rows, block_rows}
+use Rattle.vlt_core.specs.KindedBodies.{with_vars, with_focus, arm_vars_broken, focus_broken, first_ids, ids_following, ids_following_block, row_broken, form_rows, block_rows}
 use Rattle.vlt_core_laws.specs.Scoped.{is_bound}
 use Rattle.vlt_core_laws.proofs.Unbroken.{EachEmpty, right_empty}
 use Rattle.vlt_core_laws.proofs.Ids.{type_keys, keys_in_type, AreTyped, Goes, or_split, not_both, same_number}
@@ -45,13 +45,13 @@ type_typed f ids h v k ty i e m = h.each v k i (subst (λ o. has (keys_in_type o
 pub goes_known : (f : Func) (a b : Ids) → Goes f a b → IsKnownScope f a → IsKnownScope f b
 goes_known f a b g h = record {
   typed = type_typed f b (g.typed (are_typed f a h));
-  ever = λ k e. ⊎_elim (λ x. g.grows (a_key k) (h.ever k x)) (λ x. behind k x.0) (g.keys k e);
-  bound = behind;
+  ever = λ k e. ⊎_elim (λ x. g.grows (a_key k) (h.ever k x)) (λ x. following k x.0) (g.keys k e);
+  bound = following;
   head = λ k e. g.grows (a_key k) (h.head k e);
 }
   where
-    behind : (k : ℕ) → is_bound b.bound (a_key k) ≡ true → has b.keys_ever k ≡ true
-    behind k e = ⊎_elim (λ x. g.grows (a_key k) (h.bound k x)) (λ x. x) (g.known (a_key k) e)
+    following : (k : ℕ) → is_bound b.bound (a_key k) ≡ true → has b.keys_ever k ≡ true
+    following k e = ⊎_elim (λ x. g.grows (a_key k) (h.bound k x)) (λ x. x) (g.known (a_key k) e)
 
 pub start_known : (f : Func) (ids : Ids) → IsKnownScope f ids → IsKnownScope f (at_block_start ids)
 start_known f ids h = record { typed = h.typed; ever = h.ever; bound = λ k e. not_both false e refl; head = h.head }
@@ -99,18 +99,18 @@ vars_known f r (v ∷ vs) (w ∷ ws) ids e h =
 
 module _ (p : Program) (f : Func) (r : AreRanged f) where
   pub form_known : (form : Form) (around : Around) (ids : Ids) → row_broken p f around ids form ≡ [] → EachEmpty (form_rows p f around ids form) → IsKnownScope f ids →
-      IsKnownScope f (ids_behind p f form ids)
-  form_known form around ids e rows h = goes_known f ids (ids_behind p f form ids) (form_goes p f r form around ids e rows) h
+      IsKnownScope f (ids_following p f form ids)
+  form_known form around ids e rows h = goes_known f ids (ids_following p f form ids) (form_goes p f r form around ids e rows) h
 
-  pub block_known : (b : Block) (around : Around) (ids : Ids) → EachEmpty (block_rows p f around ids b) → IsKnownScope f ids → IsKnownScope f (ids_behind_block p f b ids)
-  block_known b around ids rows h = goes_known f ids (ids_behind_block p f b ids) (block_goes p f r b around ids rows) h
+  pub block_known : (b : Block) (around : Around) (ids : Ids) → EachEmpty (block_rows p f around ids b) → IsKnownScope f ids → IsKnownScope f (ids_following_block p f b ids)
+  block_known b around ids rows h = goes_known f ids (ids_following_block p f b ids) (block_goes p f r b around ids rows) h
 
   -- after an arm
   pub arm_known : (vs : List ℕ) (b : Block) (around : Around) (ids : Ids) → EachEmpty (block_rows p f around (with_vars f vs ids) b) → IsKnownScope f ids →
-      IsKnownScope f (left_behind ids (ids_behind_block p f b (with_vars f vs ids)))
+      IsKnownScope f (left_behind ids (ids_following_block p f b (with_vars f vs ids)))
   arm_known vs b around ids rows h =
-      goes_known f ids (left_behind ids (ids_behind_block p f b (with_vars f vs ids)))
-      (leaves f ids (ids_behind_block p f b (with_vars f vs ids)) (λ t w. (block_goes p f r b around (with_vars f vs ids) rows).grows t (vars_grow p f r vs ids t w))) h
+      goes_known f ids (left_behind ids (ids_following_block p f b (with_vars f vs ids)))
+      (leaves f ids (ids_following_block p f b (with_vars f vs ids)) (λ t w. (block_goes p f r b around (with_vars f vs ids) rows).grows t (vars_grow p f r vs ids t w))) h
 
 -- ---- where a body begins
 

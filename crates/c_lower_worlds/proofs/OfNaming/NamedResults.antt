@@ -270,14 +270,14 @@ module _ (p : Program) (f : Func) (ranged : AreRanged f) (ids : Ids) (g : Func) 
       own_key_same : (k u : ℕ) (args : List ℕ) (q : Reference) → var_type f v ≡ Some (tracked k u args) → reference_of f v ≡ Some q → k ≡ q.key
       own_key_same k u args q ty refers = ap (λ (q : Reference). q.key) (same_Some (record { key = k; type = u }) q (sym (ap tracked_in ty) ∙ refers))
 
-  pub back_named : (target : Option ℕ) (values : List Value) (s s2 : Frame) (behind : List ℕ) (st : Step) → IsKnownCall p f ids g target keys os → IsInScope f ids s → Emptied s s2 →
-      Promise g (first_ids p g) behind (callee_frame g keys values s2) st → Promise f ids (with_call_target f (Some g) target ids).vars s (calls.back_in f target keys g s2 st)
+  pub back_named : (target : Option ℕ) (values : List Value) (s s2 : Frame) (following : List ℕ) (st : Step) → IsKnownCall p f ids g target keys os → IsInScope f ids s → Emptied s s2 →
+      Promise g (first_ids p g) following (callee_frame g keys values s2) st → Promise f ids (with_call_target f (Some g) target ids).vars s (calls.back_in f target keys g s2 st)
   unfolding calls.back_in step.deliver step.fill
-  back_named target values s s2 behind (step.ends o w) call h em r = tt
-  back_named target values s s2 behind (step.goes fr w) call h em r = tt
-  back_named target values s s2 behind (step.jumps c fr w) call h em r = tt
-  back_named None values s s2 behind (step.leaves a kept w) call h em r = back_plain None s s2 a kept call call.aimed h em r
-  back_named (Some v) values s s2 behind (step.leaves a kept w) call h em r =
+  back_named target values s s2 following (step.ends o w) call h em r = tt
+  back_named target values s s2 following (step.goes fr w) call h em r = tt
+  back_named target values s s2 following (step.jumps c fr w) call h em r = tt
+  back_named None values s s2 following (step.leaves a kept w) call h em r = back_plain None s s2 a kept call call.aimed h em r
+  back_named (Some v) values s s2 following (step.leaves a kept w) call h em r =
       found_holds (Promise f ids (with_call_target f (Some g) (Some v) ids).vars s) (λ o w. tt) (or_fault source.no_value a) _ _ (λ b e.
       so_holds (Promise f ids (with_call_target f (Some g) (Some v) ids).vars s) (λ o w. tt) _ _ _ _ _ (λ e2.
       by b (or_fault_ok source.no_value a b e) (is_fresh_call g) refl))

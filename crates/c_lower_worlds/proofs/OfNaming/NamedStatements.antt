@@ -14,7 +14,7 @@ use Rattle.vlt_core.specs.KindedScopes.{Ids, Around, at_block_start, left_behind
 use Rattle.vlt_core.specs.KindedOperands.{misfit}
 use Rattle.vlt_core.specs.KindedStatements.{is_tracked_type, is_variant_type, variant_args, case_broken, payload_types}
 use Rattle.vlt_core.specs.KindedCalls.{call_broken, with_call_target, return_broken}
-use Rattle.vlt_core.specs.KindedBodies.{ends, in_loop, in_focus, with_vars, with_focus, arm_vars_broken, arm_broken, arms_broken, switch_broken, focus_broken, list_broken, owning_toks, row_broken, form_rows, block_rows, stmts_rows, arms_rows, ids_behind, ids_behind_block, ids_behind_stmts, ids_behind_arms, first_ids}
+use Rattle.vlt_core.specs.KindedBodies.{ends, in_loop, in_focus, with_vars, with_focus, arm_vars_broken, arm_broken, arms_broken, switch_broken, focus_broken, list_broken, owning_toks, row_broken, form_rows, block_rows, stmts_rows, arms_rows, ids_following, ids_following_block, ids_following_stmts, ids_following_arms, first_ids}
 use Rattle.vlt_core.specs.declared.rules.TheConstants as rule
 use Rattle.vlt_meaning.specs.World.{Value, one, reference, World, Frame}
 use Rattle.vlt_meaning.specs.World as source
@@ -177,12 +177,12 @@ module _ (P : Step → Type 0) (over : (o : source.Outcome) (w : World) → P (s
   arm_filled f [] (a ∷ cells) ids s w go plain h t = over _ w
   arm_filled f (v ∷ vs) [] ids s w go plain h t = over _ w
 
-pub block_vars : (p : Program) (f : Func) (b : Block) (ids : Ids) → (ids_behind_block p f b ids).vars ≡ ids.vars
+pub block_vars : (p : Program) (f : Func) (b : Block) (ids : Ids) → (ids_following_block p f b ids).vars ≡ ids.vars
 block_vars p f (block ss bound end) ids = refl
 
-arms_vars : (p : Program) (f : Func) (arms : Arms) (ids : Ids) → (ids_behind_arms p f arms ids).vars ≡ ids.vars
+arms_vars : (p : Program) (f : Func) (arms : Arms) (ids : Ids) → (ids_following_arms p f arms ids).vars ≡ ids.vars
 arms_vars p f no_arms ids = refl
-arms_vars p f (arm c vs b rest) ids = arms_vars p f rest (left_behind ids (ids_behind_block p f b (with_vars f vs ids)))
+arms_vars p f (arm c vs b rest) ids = arms_vars p f rest (left_behind ids (ids_following_block p f b (with_vars f vs ids)))
 
 vars_more : (p : Program) (f : Func) (vs : List ℕ) (ids : Ids) (v : ℕ) → has ids.vars v ≡ true → has (with_vars f vs ids).vars v ≡ true
 vars_more p f [] ids v i = i
@@ -199,7 +199,7 @@ module _ (p : Program) (kinded : IsKinded p) (types : TypesFit p) (heap depth : 
   -- what follows a unit of fuel was spent
   abbrev pub AreNamed : Meaning → Type 0
   AreNamed m = (f : Func) (ss : Stmts) (around : Around) (ids : Ids) (ended : Bool) (s : Frame) (w : World) → IsFunction p f →
-      EachEmpty (stmts_rows p f around ids ended ss) → IsInScope f ids s → Promise f ids (ids_behind_stmts p f ss ids).vars s (m f ss s w)
+      EachEmpty (stmts_rows p f around ids ended ss) → IsInScope f ids s → Promise f ids (ids_following_stmts p f ss ids).vars s (m f ss s w)
 
   range_of : (f : Func) → IsFunction p f → AreRanged f
   range_of f is = ranged_of p kinded f is
@@ -300,7 +300,7 @@ module _ (p : Program) (kinded : IsKinded p) (types : TypesFit p) (heap depth : 
 
     mutual
       pub form_named : (form : Form) (f : Func) (is : IsFunction p f) (around : Around) (ids : Ids) (s : Frame) (w : World) → row_broken p f around ids form ≡ [] → EachEmpty (form_rows p f around ids form) → IsInScope f ids s →
-          Promise f ids (ids_behind p f form ids).vars s (run.does_form setup m f form s w)
+          Promise f ids (ids_following p f form ids).vars s (run.does_form setup m f form s w)
       form_named (core.simple x) f is around ids s w row rows h = simple_named p types heap depth f is (range_of f is) ids x s w row h
       form_named (core.call g target keys os) f is around ids s w row rows h =
           found_holds (Promise f ids (with_call_target f (slice_get p.fns g) target ids).vars s) (λ o w. tt) (or_fault source.missing (slice_get p.fns g)) w _ (λ gf e.
@@ -315,24 +315,24 @@ module _ (p : Program) (kinded : IsKinded p) (types : TypesFit p) (heap depth : 
           called_named f is ids g gf target keys os values s s2 w3 at call h em
           (subst (λ K. Rattle.c_lower_worlds.proofs.OfNaming.NamedOperands.AreOfTys K (map (with_keys keys) (Rattle.vlt_core.specs.KindedHeads.parameters_of gf)) values) (sym em.keys) of) gf.external refl)))))
       form_named (core.choose e a b) f is around ids s w row rows h =
-          found_holds (Promise f ids (ids_behind_block p f b (ids_behind_block p f a ids)).vars s) (λ o w. tt) _ w _ (λ z q.
-          let ids2 = ids_behind_block p f a ids in
+          found_holds (Promise f ids (ids_following_block p f b (ids_following_block p f a ids)).vars s) (λ o w. tt) _ w _ (λ z q.
+          let ids2 = ids_following_block p f a ids in
           let first = each_left (block_rows p f around ids a) (block_rows p f around ids2 b) rows in
           let known2 = block_known p f (range_of f is) a around ids first h.known in
           let goes = block_goes p f (range_of f is) a around ids first in
-          if_holds (Promise f ids (ids_behind_block p f b ids2).vars s) (λ o w. tt) (is_true z) _ _
-          (promise_from f ids ids ids.vars (ids_behind_block p f b ids2).vars s s _ h.known (record { vars = λ v i. i; ever = λ k i. i })
+          if_holds (Promise f ids (ids_following_block p f b ids2).vars s) (λ o w. tt) (is_true z) _ _
+          (promise_from f ids ids ids.vars (ids_following_block p f b ids2).vars s s _ h.known (record { vars = λ v i. i; ever = λ k i. i })
           (λ v i. subst (λ vs. has vs v ≡ true) (block_vars p f b ids2 ∙ block_vars p f a ids) i) (λ k i. refl)
           (block_named a f is around ids s w first h))
-          (promise_from f ids ids2 ids2.vars (ids_behind_block p f b ids2).vars s s _ h.known (record { vars = λ v i. goes.vars_stay v i; ever = λ k i. goes.grows (core.a_key k) i })
+          (promise_from f ids ids2 ids2.vars (ids_following_block p f b ids2).vars s s _ h.known (record { vars = λ v i. goes.vars_stay v i; ever = λ k i. goes.grows (core.a_key k) i })
           (λ v i. subst (λ vs. has vs v ≡ true) (block_vars p f b ids2) i) (λ k i. refl)
           (block_named b f is around ids2 s w (each_right (block_rows p f around ids a) (block_rows p f around ids2 b) rows)
           (record { known = known2; names = subst (λ vs. NamesRight f vs s) (sym (block_vars p f a ids)) h.names }))))
       form_named (core.loop e b) f is around ids s w row rows h =
-          spend_holds (Promise f ids (ids_behind_block p f b ids).vars s) (λ o w. tt) w _ (λ w1.
-          found_holds (Promise f ids (ids_behind_block p f b ids).vars s) (λ o w. tt) _ w1 _ (λ z q.
-          if_holds (Promise f ids (ids_behind_block p f b ids).vars s) (λ o w. tt) (is_true z) _ (step.goes s w1)
-          (turn_named f ids (ids_behind_block p f b ids).vars s _ (m f (next 0 (core.loop e b) done)) h.known (λ v i. subst (λ vs. has vs v ≡ true) (block_vars p f b ids) i)
+          spend_holds (Promise f ids (ids_following_block p f b ids).vars s) (λ o w. tt) w _ (λ w1.
+          found_holds (Promise f ids (ids_following_block p f b ids).vars s) (λ o w. tt) _ w1 _ (λ z q.
+          if_holds (Promise f ids (ids_following_block p f b ids).vars s) (λ o w. tt) (is_true z) _ (step.goes s w1)
+          (turn_named f ids (ids_following_block p f b ids).vars s _ (m f (next 0 (core.loop e b) done)) h.known (λ v i. subst (λ vs. has vs v ≡ true) (block_vars p f b ids) i)
           (block_named b f is (in_loop around) ids s w1 rows h)
           (λ s2 w2 r. rest_named f (next 0 (core.loop e b) done) around ids false s2 w2 is (row, none_more (form_rows p f around ids (core.loop e b)) rows) (record { known = h.known; names = r.names })))
           (record { names = subst (λ vs. NamesRight f vs s) (sym (block_vars p f b ids)) h.names; kept = λ k i. refl })))
@@ -341,12 +341,12 @@ module _ (p : Program) (kinded : IsKinded p) (types : TypesFit p) (heap depth : 
           none_more [] e = tt
           none_more (x ∷ xs) e = (e.0, none_more xs e.1)
       form_named (core.switch v arms end) f is around ids s w row rows h =
-          found_holds (Promise f ids (ids_behind_arms p f arms ids).vars s) (λ o w. tt) _ w _ (λ t e.
-          found_holds (Promise f ids (ids_behind_arms p f arms ids).vars s) (λ o w. tt) _ w _ (λ c e2.
-          opened_holds (Promise f ids (ids_behind_arms p f arms ids).vars s) (λ o w. tt) _ c.keys s w _ (λ w1.
+          found_holds (Promise f ids (ids_following_arms p f arms ids).vars s) (λ o w. tt) _ w _ (λ t e.
+          found_holds (Promise f ids (ids_following_arms p f arms ids).vars s) (λ o w. tt) _ w _ (λ c e2.
+          opened_holds (Promise f ids (ids_following_arms p f arms ids).vars s) (λ o w. tt) _ c.keys s w _ (λ w1.
           let parts = both_empty (switch_broken p f ids v arms) (arms_broken p f ids v arms) row in
           let em = emptied_switch f v s in
-          promise_from f ids ids (ids_behind_arms p f arms ids).vars (ids_behind_arms p f arms ids).vars s (with_empty_variable f v s) _ h.known (record { vars = λ v i. i; ever = λ k i. i }) (λ v i. i)
+          promise_from f ids ids (ids_following_arms p f arms ids).vars (ids_following_arms p f arms ids).vars s (with_empty_variable f v s) _ h.known (record { vars = λ v i. i; ever = λ k i. i }) (λ v i. i)
           (λ k i. ap (λ (keys : ℕ → Option ℕ). keys k) em.keys)
           (arms_named arms f is v around ids c (with_empty_variable f v s) w1 (variant_var f is v arms ids parts.left) parts.right rows
           (record { known = h.known; names = emptied_names f ids.vars s (with_empty_variable f v s) em h.names })))))
@@ -361,7 +361,7 @@ module _ (p : Program) (kinded : IsKinded p) (types : TypesFit p) (heap depth : 
           (promise_from f ids (with_focus f z ids) (with_focus f z ids).vars ids.vars s _ _ h.known (focus_wide f is z ids) (focus_wide f is z ids).vars start.kept
           (block_named b f is in_focus (with_focus f z ids) _ _ rows (record { known = focus_known p f (range_of f is) y z ids parts.left h.known; names = start.names })))))))
       form_named (core.scope b) f is around ids s w row rows h =
-          promise_from f ids ids ids.vars (ids_behind_block p f b ids).vars s s _ h.known (record { vars = λ v i. i; ever = λ k i. i })
+          promise_from f ids ids ids.vars (ids_following_block p f b ids).vars s s _ h.known (record { vars = λ v i. i; ever = λ k i. i })
           (λ v i. subst (λ vs. has vs v ≡ true) (block_vars p f b ids) i) (λ k i. refl) (block_named b f is around ids s w rows h)
       form_named (core.return value) f is around ids s w row rows h =
           return_named p types heap depth f is ids value s w (both_empty (unless around.returns rule.WRONG_JUMP) (return_broken p f ids f.result value) row).right h.names
@@ -372,40 +372,40 @@ module _ (p : Program) (kinded : IsKinded p) (types : TypesFit p) (heap depth : 
       block_named (block ss bound end) f is around ids s w rows h =
           let goes = stmts_go p f (range_of f is) ss around (at_block_start ids) false rows in
           left_named f ids ids.vars s bound _
-          (promise_from f ids (at_block_start ids) (ids_behind_stmts p f ss (at_block_start ids)).vars ids.vars s s _ h.known (record { vars = λ v i. i; ever = λ k i. i }) (λ v i. goes.vars_stay v i) (λ k i. refl)
+          (promise_from f ids (at_block_start ids) (ids_following_stmts p f ss (at_block_start ids)).vars ids.vars s s _ h.known (record { vars = λ v i. i; ever = λ k i. i }) (λ v i. goes.vars_stay v i) (λ k i. refl)
           (stmts_named ss f is around (at_block_start ids) false s w rows (record { known = start_known f ids h.known; names = h.names })))
 
       pub stmts_named : (ss : Stmts) (f : Func) (is : IsFunction p f) (around : Around) (ids : Ids) (ended : Bool) (s : Frame) (w : World) → EachEmpty (stmts_rows p f around ids ended ss) → IsInScope f ids s →
-          Promise f ids (ids_behind_stmts p f ss ids).vars s (run.does_stmts setup m f ss s w)
+          Promise f ids (ids_following_stmts p f ss ids).vars s (run.does_stmts setup m f ss s w)
       stmts_named done f is around ids ended s w rows h = same_arrives f ids s s (emptied_self s) h.names
       stmts_named (next at form rest) f is around ids ended s w rows h =
-          let row = right_empty (unless (not ended) rule.BEHIND_END) (row_broken p f around ids form) rows.0 in
-          let mine = each_left (form_rows p f around ids form) (stmts_rows p f around (ids_behind p f form ids) (ends form) rest) rows.1 in
+          let row = right_empty (unless (not ended) rule.AFTER_END) (row_broken p f around ids form) rows.0 in
+          let mine = each_left (form_rows p f around ids form) (stmts_rows p f around (ids_following p f form ids) (ends form) rest) rows.1 in
           let goes = form_goes p f (range_of f is) form around ids row mine in
-          then_named f ids (ids_behind p f form ids) (ids_behind_stmts p f rest (ids_behind p f form ids)).vars s _ (run.does_stmts setup m f rest) h.known
+          then_named f ids (ids_following p f form ids) (ids_following_stmts p f rest (ids_following p f form ids)).vars s _ (run.does_stmts setup m f rest) h.known
           (record { vars = λ v i. goes.vars_stay v i; ever = λ k i. goes.grows (core.a_key k) i })
           (form_named form f is around ids s w row mine h)
-          (λ s2 w2 r. stmts_named rest f is around (ids_behind p f form ids) (ends form) s2 w2 (each_right (form_rows p f around ids form) (stmts_rows p f around (ids_behind p f form ids) (ends form) rest) rows.1)
+          (λ s2 w2 r. stmts_named rest f is around (ids_following p f form ids) (ends form) s2 w2 (each_right (form_rows p f around ids form) (stmts_rows p f around (ids_following p f form ids) (ends form) rest) rows.1)
           (record { known = form_known p f (range_of f is) form around ids row mine h.known; names = r.names }))
 
       arms_named : (arms : Arms) (f : Func) (is : IsFunction p f) (v : ℕ) (around : Around) (ids : Ids) (c : Case) (s : Frame) (w : World) → IsVariantVar p f v → arms_broken p f ids v arms ≡ [] →
-          EachEmpty (arms_rows p f around ids arms) → IsInScope f ids s → Promise f ids (ids_behind_arms p f arms ids).vars s (run.does_arm setup m f c arms s w)
+          EachEmpty (arms_rows p f around ids arms) → IsInScope f ids s → Promise f ids (ids_following_arms p f arms ids).vars s (run.does_arm setup m f c arms s w)
       arms_named no_arms f is v around ids c s w var broken rows h = tt
       arms_named (arm n vs b rest) f is v around ids c s w var broken rows h =
           let ids1 = with_vars f vs ids in
-          let ids2 = left_behind ids (ids_behind_block p f b ids1) in
+          let ids2 = left_behind ids (ids_following_block p f b ids1) in
           let parts = both_empty (arm_broken p f ids v n vs ++ list_broken p f (owning_toks f vs) ids1 b) (arms_broken p f ids2 v rest) broken in
           let mine = both_empty (arm_broken p f ids v n vs) (list_broken p f (owning_toks f vs) ids1 b) parts.left in
           let vars = both_empty (case_broken p n (length vs) (variant_args (var_type f v))) (arm_vars_broken f ids (payload_types p (variant_args (var_type f v)) n) vs) mine.left in
           let block_row = each_left (block_rows p f around ids1 b) (arms_rows p f around ids2 rest) rows in
           let known2 = arm_known p f (range_of f is) vs b around ids block_row h.known in
           let ever : (k : ℕ) → has ids.keys_ever k ≡ true → has ids1.keys_ever k ≡ true = λ k i. vars_grow p f (range_of f is) vs ids (core.a_key k) i in
-          if_holds (Promise f ids (ids_behind_arms p f rest ids2).vars s) (λ o w. tt) (c.number == n) _ _
-          (arm_filled (Promise f ids (ids_behind_arms p f rest ids2).vars s) (λ o w. tt) f vs _ ids s w _ (arm_vars_plain f is v n vs ids var mine.left) h.names (λ s2 names keys.
-          promise_from f ids ids1 ids1.vars (ids_behind_arms p f rest ids2).vars s s2 _ h.known (record { vars = vars_more p f vs ids; ever = ever })
+          if_holds (Promise f ids (ids_following_arms p f rest ids2).vars s) (λ o w. tt) (c.number == n) _ _
+          (arm_filled (Promise f ids (ids_following_arms p f rest ids2).vars s) (λ o w. tt) f vs _ ids s w _ (arm_vars_plain f is v n vs ids var mine.left) h.names (λ s2 names keys.
+          promise_from f ids ids1 ids1.vars (ids_following_arms p f rest ids2).vars s s2 _ h.known (record { vars = vars_more p f vs ids; ever = ever })
           (λ u i. vars_more p f vs ids u (subst (λ us. has us u ≡ true) (arms_vars p f rest ids2) i)) (λ k i. ap (λ (keys : ℕ → Option ℕ). keys k) keys)
           (block_named b f is around ids1 s2 w block_row (record { known = vars_known f (range_of f is) vs (payload_types p (variant_args (var_type f v)) n) ids vars.right h.known; names = names }))))
-          (promise_from f ids ids2 (ids_behind_arms p f rest ids2).vars (ids_behind_arms p f rest ids2).vars s s _ h.known
+          (promise_from f ids ids2 (ids_following_arms p f rest ids2).vars (ids_following_arms p f rest ids2).vars s s _ h.known
           (record { vars = λ u i. i; ever = λ k i. (block_goes p f (range_of f is) b around ids1 block_row).grows (core.a_key k) (ever k i) }) (λ u i. i) (λ k i. refl)
           (arms_named rest f is v around ids2 c s w var parts.right (each_right (block_rows p f around ids1 b) (arms_rows p f around ids2 rest) rows) (record { known = known2; names = h.names })))
 

@@ -125,26 +125,26 @@ held_no_trap k s objects =
     then_no_trap _ _ (or_fault_no_trap source.no_value (s.keys k))
     (λ n. then_no_trap _ _ (object_no_trap objects n) (λ m. if_so_no_trap _ source.not_held m))
 
-behind_no_trap : (r q : Option Reference) (x : ℕ) (states : Reference → core.States) (s : source.Frame) (objects : List source.Object) →
-    NoTrap (meaning.object_behind r q x states s objects)
-behind_no_trap (Some r) q x states s objects =
+after_no_trap : (r q : Option Reference) (x : ℕ) (states : Reference → core.States) (s : source.Frame) (objects : List source.Object) →
+    NoTrap (meaning.object_after r q x states s objects)
+after_no_trap (Some r) q x states s objects =
     then_no_trap _ _
     (then_no_trap _ _ (held_no_trap r.key s objects)
     (λ m. then_no_trap _ _ (reference_no_trap (s.vars x)) (λ n. if_so_no_trap _ source.other_object m)))
     (λ m. if_so_no_trap _ source.wrong_state m)
-behind_no_trap None (Some q) x states s objects =
+after_no_trap None (Some q) x states s objects =
     then_no_trap _ _
     (then_no_trap _ _ (held_no_trap q.key s objects)
     (λ a. then_no_trap _ _ (reference_no_trap (s.vars x))
     (λ n. then_no_trap _ _ (object_no_trap objects n) (λ m. if_so_no_trap _ source.not_guarded m))))
     (λ m. if_so_no_trap _ source.wrong_state m)
-behind_no_trap None None x states s objects = fault_no_trap Named source.missing None
+after_no_trap None None x states s objects = fault_no_trap Named source.missing None
 
 field_no_trap : (p : Program) (f : Func) (x i : ℕ) (s : source.Frame) (objects : List source.Object) →
     NoTrap (number_of p f (core.field x i) s objects)
 field_no_trap p f x i s objects =
     then_no_trap _ _
-    (then_no_trap _ _ (behind_no_trap (reference_of f x) (guarded_of f x) x _ s objects) (λ m. or_fault_no_trap source.missing (slice_get m.object.cells i)))
+    (then_no_trap _ _ (after_no_trap (reference_of f x) (guarded_of f x) x _ s objects) (λ m. or_fault_no_trap source.missing (slice_get m.object.cells i)))
     number_no_trap
 
 var_no_trap : (p : Program) (f : Func) (v : ℕ) (s : source.Frame) (objects : List source.Object) → NoTrap (number_of p f (core.var v) s objects)

@@ -3,7 +3,7 @@ use Rattle.std.specs.Prelude.{◌≡◌, ℕ, Bool, None}
 use Rattle.vlt_core.specs.Core.{Stmts, Func, Program}
 use Rattle.vlt_core.specs.Kinded.{first_broken, IsKinded}
 use Rattle.vlt_core.specs.KindedScopes.{Ids, Around}
-use Rattle.vlt_core.specs.KindedBodies.{stmts_rows, ids_behind_stmts}
+use Rattle.vlt_core.specs.KindedBodies.{stmts_rows, ids_following_stmts}
 use Rattle.vlt_meaning.specs.World.{World, Frame}
 use Rattle.vlt_meaning.specs.Run.{less}
 use Rattle.c_lower_worlds.specs.Naming.Functions.{IsFunction}
@@ -20,5 +20,5 @@ NamesAreKept =
     (s : Frame) (w : World) → IsFunction p f →
     first_broken 0 (stmts_rows p f around ids ended ss) ≡ None →
     IsInScope f ids s →
-    Promise f ids (ids_behind_stmts p f ss ids).vars s
+    Promise f ids (ids_following_stmts p f ss ids).vars s
     (less (record { program = p; heap = heap; depth = depth }) fuel f ss s w)

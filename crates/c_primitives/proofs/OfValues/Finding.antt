@@ -118,9 +118,9 @@ past_end [] i l = refl
 past_end (x ∷ xs) zero l = absurd (omega (arith, l))
 past_end (x ∷ xs) (suc i) l = past_end xs i (omega (arith, l))
 
--- behind the first n, of which there may be fewer
-get_behind : {A : Type 0} (xs : List A) (n m j : ℕ) → m ≡ min n (length xs) → slice_get (drop m xs) j ≡ slice_get xs (n + j)
-get_behind xs n m j e = by (nat_le n (length xs)) refl
+-- after the first n, of which there may be fewer
+get_after : {A : Type 0} (xs : List A) (n m j : ℕ) → m ≡ min n (length xs) → slice_get (drop m xs) j ≡ slice_get xs (n + j)
+get_after xs n m j e = by (nat_le n (length xs)) refl
   where
     by : (t : Bool) → nat_le n (length xs) ≡ t → slice_get (drop m xs) j ≡ slice_get xs (n + j)
     by true is = let l : n ≤ length xs = grind (arith, nat_tests) in let k : m ≡ n = omega (arith, e, l) in ap (λ i. slice_get (drop i xs) j) k ∙ get_drop xs n j
@@ -135,7 +135,7 @@ module _ {A : Type 0} (f : A → model.Value) (ps vs : List CVar) (values : List
 
   pub second_shown : (m j : ℕ) → place_in ps v ≡ None → place_in vs v ≡ Some j → m ≡ min (length ps) (length values) → option_map f (option_join (slice_get (drop m values) j)) ≡ value_under (ps ++ vs) (map (option_map f) values) v
   second_shown m j e is k =
-      ap (λ x. option_map f (option_join x)) (get_behind values (length ps) m j k) ∙ joined_map f values (length ps + j)
+      ap (λ x. option_map f (option_join x)) (get_after values (length ps) m j k) ∙ joined_map f values (length ps + j)
       ∙ ap (value_by (map (option_map f) values)) (ap (option_map (λ i. length ps + i)) (sym is) ∙ in_second ps vs v e) ∙ sym (looked_by (ps ++ vs) (map (option_map f) values) v)
 
   pub none_shown : place_in ps v ≡ None → place_in vs v ≡ None → None ≡ value_under (ps ++ vs) (map (option_map f) values) v
@@ -148,8 +148,8 @@ at_position {A = A} xs i a e = by (slice_get xs i) refl e
     by None is j = absurd (none-some a j)
     by (Some x) is j = is ∙ ap (λ y. Some y) j
 
-pub at_behind : {A : Type 0} (xs : List (Option A)) (m j : ℕ) (a : A) → option_join (slice_get (drop m xs) j) ≡ Some a → slice_get xs (m + j) ≡ Some (Some a)
-at_behind xs m j a e = sym (get_drop xs m j) ∙ at_position (drop m xs) j a e
+pub at_after : {A : Type 0} (xs : List (Option A)) (m j : ℕ) (a : A) → option_join (slice_get (drop m xs) j) ≡ Some a → slice_get xs (m + j) ≡ Some (Some a)
+at_after xs m j a e = sym (get_drop xs m j) ∙ at_position (drop m xs) j a e
 
 pub slot_made : (slots : List (Option Value)) (r : Option Value) (k : ℕ) → ((a : Value) → r ≡ Some a → slice_get slots k ≡ Some (Some a)) → IfSome r (λ a. (ts : Things) → AreMadeSlots ts slots → IsMadeValue ts a)
 slot_made slots None k h = tt

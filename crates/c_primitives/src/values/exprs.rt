@@ -1,13 +1,12 @@
 //! The values of expressions.
 
 ghost use Rattle.std.specs.Prelude.{◌≡◌, IfSome};
-ghost use Rattle.vlt_ops.specs.Operator.{applied, is_true};
+ghost use Rattle.vlt_ops.specs.Operator.{applied};
 ghost use Rattle.vlt_rings.specs.Things.{Things};
 ghost use Rattle.c_syntax.specs.View.{expr_of, arg_of};
-ghost use Rattle.c_meaning.specs.Values.{a_number, a_reference, base_in, cell_value, or_rule, truth_of, value_of_both, value_of, arg_value};
-ghost use Rattle.c_meaning.specs.Primitives.{number_of as number_value, reference_of as reference_value};
+ghost use Rattle.c_meaning.specs.Values.{base_in, cell_value, or_rule, value_of, arg_value};
 ghost use Rattle.c_memory.specs.Shown.{IsSound, Holds, blocks_of};
-ghost use Rattle.c_primitives.specs.Values.Shown.{shown_vars, value_view, AreMadeSlots, IsValue, IsReference, IsDecided, IsMadeValue};
+ghost use Rattle.c_primitives.specs.Values.Shown.{shown_vars, AreMadeSlots, IsValue, IsReference, IsDecided, IsMadeValue};
 
 use crate::values::value::{UNSET, Value};
 use crate::values::vars::Vars;

@@ -48,7 +48,7 @@ fn at(values: &[Option<Value>], i: usize) -> Option<Value>
 }
 
 /// The values from a position on.
-fn behind(values: &[Option<Value>], n: usize) -> &[Option<Value>]
+fn following(values: &[Option<Value>], n: usize) -> &[Option<Value>]
     requires { n ≤ length values.now }
     ensures { result.now ≡ drop n values.now }
 {
@@ -68,7 +68,7 @@ impl<'a> Vars<'a> {
             Some(i) => at(self.values, i),
             None => match find(self.declared, v) {
                 Some(j) => at(
-                    behind(self.values, self.params.len().min(self.values.len())),
+                    following(self.values, self.params.len().min(self.values.len())),
                     j,
                 ),
                 None => None,

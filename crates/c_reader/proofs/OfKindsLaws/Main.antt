@@ -169,20 +169,20 @@ heads_quiet bodies before (g ∷ gs) w h =
     quiet (not (has_name g.name before)) (k.place first) 1 first (quiet (k.has_head g bodies) (k.place second) 6 second (params_quiet g.params (k.skip 2 third) quiet_fourth))
 
 -- what follows the two first lines begins here
-abbrev behind_main : List ℕ → TranslationUnit → Walk
-behind_main places u = k.skip 2 (k.main_judged u (k.skip 3 (record { places = places; least = None })))
+abbrev after_main : List ℕ → TranslationUnit → Walk
+after_main places u = k.skip 2 (k.main_judged u (k.skip 3 (record { places = places; least = None })))
 
 pub main_there : (places : List ℕ) (u : TranslationUnit) → k.unit_refusal places u ≡ None → IsTrue (has_main u.main (heads_of u.bodies))
 main_there places u none =
     let start : Walk = k.skip 3 (record { places = places; least = None }) in
-    let second : Walk = behind_main places u in
+    let second : Walk = after_main places u in
     let third : Walk = k.heads_judged (heads_of u.bodies) [] u.heads second in
     let quiet_second : second.least ≡ None = heads_quiet (heads_of u.bodies) [] u.heads second (bodies_good u.heads [] u.bodies third none).before in
     kept (has_main u.main (heads_of u.bodies)) (k.place start - 1) 6 start quiet_second
 
 -- where no rule refuses a text, the names of its bodies differ
 pub names_apart : (places : List ℕ) (u : TranslationUnit) → k.unit_refusal places u ≡ None → AreApart [] u.bodies
-names_apart places u none = bodies_apart u.heads [] u.bodies (k.heads_judged (heads_of u.bodies) [] u.heads (behind_main places u)) none
+names_apart places u none = bodies_apart u.heads [] u.bodies (k.heads_judged (heads_of u.bodies) [] u.heads (after_main places u)) none
 
 main_is : (places : List ℕ) (u : TranslationUnit) → k.unit_refusal places u ≡ None → HaveNoParams u.main u.bodies
 main_is places u none = main_alone u.main [] u.bodies (names_apart places u none) (main_there places u none)

@@ -16,7 +16,7 @@ abbrev pub AreWithin : ℕ → List ℕ → Type 0
 AreWithin most [] = Unit {0}
 AreWithin most (place ∷ places) = (place ≤ most) × AreWithin most places
 
--- where the tokens begin at no byte behind that one, nothing is told behind it
+-- where the tokens begin at no byte after that one, nothing is told after it
 abbrev pub RefusalsAreWithin : Type 0
 RefusalsAreWithin =
     (places : List ℕ) (u : TranslationUnit) (most : ℕ) (r : Refusal)

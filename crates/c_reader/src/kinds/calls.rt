@@ -1,7 +1,6 @@
 //! Calls.
 
-ghost use Rattle.std.specs.Prelude.{◌≡◌, Bool, map, MatchOption, option_map, None, Some};
-ghost use Rattle.c_syntax.specs.C.{Arg};
+ghost use Rattle.std.specs.Prelude.{◌≡◌, map, MatchOption, None, Some};
 ghost use Rattle.c_syntax.specs.Kinds as k;
 ghost use Rattle.c_syntax.specs.View.{arg_of, call_of};
 ghost use Rattle.c_parser.specs.View.{head_of, declaration_of};

@@ -1,6 +1,6 @@
 //! Declarations, heads, functions with their bodies, and the whole.
 
-ghost use Rattle.std.specs.Prelude.{◌≡◌, ◌++◌, [], ◌∷◌, map, not, take, IfOk};
+ghost use Rattle.std.specs.Prelude.{◌≡◌, ◌++◌, [], ◌∷◌, map, not, IfOk};
 ghost use Rattle.c_syntax.specs.Kinds as k;
 ghost use Rattle.c_parser.specs.View.{body_of, declaration_of, head_of, unit_of};
 ghost use Rattle.c_reader.specs.Kinds.View.{walk_of};
@@ -17,7 +17,7 @@ use std::alloc::Global;
 use vlt_base::Memory;
 
 impl Walk<'_> {
-    /// A name that is declared behind those names, with the sign behind it.
+    /// A name that is declared after those names, with the sign after it.
     fn declaration(&mut self, before: &[CVar], declaration: Declaration)
         ensures { walk_of self.new ≡ k.declarations_judged before.now
             (declaration_of declaration ∷ []) (walk_of self.old) }
@@ -31,7 +31,7 @@ impl Walk<'_> {
         self.skip(2);
     }
 
-    /// Names that are declared behind those names, to which they are added.
+    /// Names that are declared after those names, to which they are added.
     fn declarations(
         &mut self,
         names: &mut Vec<CVar>,

@@ -43,7 +43,7 @@ impl Walk<'_> {
         self.skip(2);
     }
 
-    /// A value with the semicolon behind it, and whether the rule of the statement is kept.
+    /// A value with the semicolon after it, and whether the rule of the statement is kept.
     fn value(&mut self, scope: &Scope<'_>, own: u32, expr: &CExpr, kept: bool, rule: u8)
         ensures { walk_of self.new ≡ k.skip 1 (k.unless kept own rule
             (k.expr_judged (scope_of scope.now) own (expr_of expr.now) (walk_of self.old))) }

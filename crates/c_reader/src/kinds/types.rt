@@ -1,10 +1,9 @@
 //! Names and types.
 
-ghost use Rattle.std.specs.Prelude.{◌≡◌, map, option_map, MatchOption, Some, None};
+ghost use Rattle.std.specs.Prelude.{◌≡◌, MatchOption, Some, None};
 ghost use Rattle.c_syntax.specs.Kinds as k;
-ghost use Rattle.c_syntax.specs.View.{arg_of, call_of, expr_of};
-ghost use Rattle.c_parser.specs.View.{head_of};
-ghost use Rattle.c_reader.specs.Kinds.View.{scope_of, wanted_of};
+ghost use Rattle.c_syntax.specs.View.{expr_of};
+ghost use Rattle.c_reader.specs.Kinds.View.{scope_of};
 
 use crate::kinds::order::Heads;
 use c_syntax::{CArg, CCell, CExpr, CName, CPrim, CResult, CVar};

@@ -29,7 +29,7 @@ impl Refusal {
     }
 }
 
-/// The tokens behind so many.
+/// The tokens after so many.
 #[tactic(auto, using(crate::proofs::OfKinds::Places::slice_places, crate::proofs::OfKinds::Places::drop_short))]
 fn past<'a>(lexemes: &'a [Lexeme<'a>], n: usize) -> &'a [Lexeme<'a>]
     ensures { map (λ l. l.at) result.now ≡ drop n (map (λ l. l.at) lexemes.now) }

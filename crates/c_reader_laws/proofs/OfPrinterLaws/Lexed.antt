@@ -11,7 +11,7 @@ use Rattle.c_syntax.specs.Canonical.{gap, text_of_tokens, begins_else, line_feed
 use Rattle.c_reader_laws.proofs.OfPrinterLaws.Pieces.{blank, blank_unmarked, pieced}
 use Rattle.c_reader_laws.proofs.OfPrinterLaws.Plain.{ArePlain}
 
--- ---- one token, and the blank behind it
+-- ---- one token, and the blank after it
 
 chosen : (d : Bool) → (g : Bool) × ((if d then space else line_feed) ≡ blank g ∷ [])
 chosen true = (true, refl)
@@ -43,11 +43,11 @@ lexed_tokens total (x ∷ xs) = ap (λ ys. x ∷ ys) (lexed_tokens total xs)
 solid_first : (b : ℕ) (bs : List ℕ) → is_blank b ≡ false → past_run is_blank (b ∷ bs) ≡ b ∷ bs
 solid_first b bs solid = rw solid refl
 
-behind_blank : (g : Bool) (total : ℕ) (bs : List ℕ) (ls : List Lexeme) → AreTokensOf total bs ls → AreTokensOf total (blank g ∷ bs) ls
-behind_blank true total bs [] are = are
-behind_blank true total bs (l ∷ ls) are = are
-behind_blank false total bs [] are = are
-behind_blank false total bs (l ∷ ls) are = are
+after_blank : (g : Bool) (total : ℕ) (bs : List ℕ) (ls : List Lexeme) → AreTokensOf total bs ls → AreTokensOf total (blank g ∷ bs) ls
+after_blank true total bs [] are = are
+after_blank true total bs (l ∷ ls) are = are
+after_blank false total bs [] are = are
+after_blank false total bs (l ∷ ls) are = are
 
 -- the token stands where its text begins
 stands : (total : ℕ) (x y : Token) (bs cs : List ℕ) → bs ≡ cs → x ≡ y → length bs ≤ total → IsAt total cs (placed total x bs) y
@@ -66,7 +66,7 @@ written_read total (x ∷ xs) plain readable fits =
       p.more,
       ap (past_run is_blank) begins ∙ solid_first p.byte p.more p.solid,
       stands total x ((piece p.byte p.more).0) (text_of_tokens (x ∷ xs)) (p.byte ∷ p.more) begins (sym (ap (λ q. q.0) p.is)) fits,
-      subst (λ q. AreTokensOf total (q.1) (lexed total xs)) (sym p.is) (behind_blank g.0 total (text_of_tokens xs) (lexed total xs) (written_read total xs plain.1 readable.1 less)),
+      subst (λ q. AreTokensOf total (q.1) (lexed total xs)) (sym p.is) (after_blank g.0 total (text_of_tokens xs) (lexed total xs) (written_read total xs plain.1 readable.1 less)),
     )
 
 -- no mark of a certificate begins in it
@@ -83,22 +83,22 @@ written_unmarked (x ∷ xs) tail plain readable =
 
 -- ---- the two first lines
 
-abbrev behind_include : ℕ → List ℕ → List ℕ
-behind_include main rest = 10 ∷ (define_text ++ (decimal main ++ 10 ∷ rest))
+abbrev after_include : ℕ → List ℕ → List ℕ
+after_include main rest = 10 ∷ (define_text ++ (decimal main ++ 10 ∷ rest))
 
 abbrev pub first_lines : ℕ → List ℕ → List ℕ
-first_lines main rest = include_text ++ behind_include main rest
+first_lines main rest = include_text ++ after_include main rest
 
 abbrev pub all_lexed : ℕ → ℕ → List Token → List Lexeme
 all_lexed total main xs =
-    placed total t.include (first_lines main (text_of_tokens xs)) ∷ placed total t.line_end (behind_include main (text_of_tokens xs))
+    placed total t.include (first_lines main (text_of_tokens xs)) ∷ placed total t.line_end (after_include main (text_of_tokens xs))
     ∷ placed total t.define (define_text ++ (decimal main ++ 10 ∷ text_of_tokens xs)) ∷ placed total (t.number (pos main)) (decimal main ++ 10 ∷ text_of_tokens xs)
     ∷ placed total t.line_end (10 ∷ text_of_tokens xs) ∷ lexed total xs
 
 pub all_tokens : (total main : ℕ) (xs : List Token) → tokens_in (all_lexed total main xs) ≡ t.include ∷ t.line_end ∷ t.define ∷ t.number (pos main) ∷ t.line_end ∷ xs
 all_tokens total main xs = ap (λ ys. t.include ∷ t.line_end ∷ t.define ∷ t.number (pos main) ∷ t.line_end ∷ ys) (lexed_tokens total xs)
 
--- the first of these pieces is this token, and that text stands behind it
+-- the first of these pieces is this token, and that text stands after it
 first_taken : (p : ℕ → List ℕ → Piece) (ps : List (ℕ → List ℕ → Piece)) (total : ℕ) (bs after more : List ℕ) (b : ℕ) (x : Token) (ls : List Lexeme)
     → bs ≡ b ∷ more → p b more ≡ (x, after) → length bs ≤ total → AreFirst ps total after ls → AreFirst (p ∷ ps) total bs (placed total x bs ∷ ls)
 first_taken p ps total bs after more b x ls begins is fits rest =
@@ -111,10 +111,10 @@ text_read total main xs number plain readable fits =
     let rest : List ℕ = text_of_tokens xs in
     let digits : List ℕ = decimal main ++ 10 ∷ rest in
     let p = pieced (t.number (pos main)) false rest refl number in
-    let whole : length (first_lines main rest) ≡ length include_text + length (behind_include main rest) = length-append include_text (behind_include main rest) in
+    let whole : length (first_lines main rest) ≡ length include_text + length (after_include main rest) = length-append include_text (after_include main rest) in
     let second : length (define_text ++ digits) ≡ length define_text + length digits = length-append define_text digits in
     let last : length digits ≡ length (decimal main) + suc (length rest) = length-append (decimal main) (10 ∷ rest) in
-    let at_end : length (behind_include main rest) ≤ total = omega (arith, whole, fits) in
+    let at_end : length (after_include main rest) ≤ total = omega (arith, whole, fits) in
     let at_define : length (define_text ++ digits) ≤ total = omega (arith, at_end) in
     let at_digits : length digits ≤ total = omega (arith, second, at_define) in
     let at_last : suc (length rest) ≤ total = omega (arith, last, at_digits) in
@@ -122,7 +122,7 @@ text_read total main xs number plain readable fits =
     (stands total t.line_end t.line_end (10 ∷ rest) (10 ∷ rest) refl refl at_last, written_read total xs plain readable (omega (arith, at_last))) in (
       stands total t.include t.include (first_lines main rest) (first_lines main rest) refl refl fits,
       (
-        stands total t.line_end t.line_end (behind_include main rest) (behind_include main rest) refl refl at_end,
+        stands total t.line_end t.line_end (after_include main rest) (after_include main rest) refl refl at_end,
         (
           stands total t.define t.define (define_text ++ digits) (define_text ++ digits) refl refl at_define,
           first_taken piece (fixed_piece t.line_end ∷ []) total digits (10 ∷ rest) p.more p.byte (t.number (pos main)) (placed total t.line_end (10 ∷ rest) ∷ lexed total xs) p.begins p.is at_digits last_line,

@@ -1,4 +1,4 @@
--- Each token is read back from its text, where a blank stands behind it, and no mark of a certificate begins in it.
+-- Each token is read back from its text, where a blank stands after it, and no mark of a certificate begins in it.
 use Rattle.std.proofs.Common.{◌≡◌, ◌≤◌, ℕ, pos, ◌==◌, not, Bool, true, false, List, [], ◌∷◌, ◌++◌, None, refl, sym, ap, ◌∙◌, subst, arith, append_assoc}
 use Rattle.std.specs.Fmt.{decimal}
 use Rattle.std.specs.List.{list_all}
@@ -22,7 +22,7 @@ use Rattle.c_syntax.specs.Text.{is_blank, is_digit, is_run_byte, run, past_run, 
 use Rattle.c_syntax.specs.Canonical.{EachIs, IsReadable}
 use Rattle.c_reader_laws.proofs.OfPrinterLaws.Numerals.{numeral}
 
--- ---- the blank behind a token
+-- ---- the blank after a token
 
 -- a space, or the end of a line
 abbrev pub blank : Bool → ℕ

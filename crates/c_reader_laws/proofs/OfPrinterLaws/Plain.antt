@@ -1,4 +1,4 @@
--- The tokens behind the two first lines are plain.
+-- The tokens after the two first lines are plain.
 use Rattle.std.proofs.Common.{◌≡◌, Bool, true, false, List, [], ◌∷◌, Some, None, refl}
 use Rattle.vlt_ops.specs.declared.Op.{Op}
 use Rattle.vlt_ops.specs.declared.Op.TheVariants as op

@@ -16,7 +16,7 @@ use Rattle.c_reader_laws.proofs.OfPrinterLaws.Plain.{ArePlain, functions_plain}
 use Rattle.c_reader_laws.proofs.OfPrinterLaws.Lexed.{first_lines, all_lexed, all_tokens, text_read, text_unmarked}
 use Rattle.c_reader_laws.proofs.OfPrinterLaws.Units.{program_again}
 
--- the tokens behind the two first lines
+-- the tokens after the two first lines
 abbrev tokens_of : Program → List Token
 tokens_of p = functions_then (unit_of p) []
 

@@ -15,7 +15,7 @@ use Rattle.c_syntax.specs.Tokens.{Token}
 use Rattle.c_syntax.specs.Grammar.{HasArities, expr_depth}
 use Rattle.c_syntax.specs.Spelling.{prefix_sign, expr_then, arg_token, args_then, more_args_then, call_then}
 
--- a part, and the tokens behind it
+-- a part, and the tokens after it
 abbrev pub Part : Type 0 → Type 0
 Part X = Option (X × List Token)
 
@@ -41,7 +41,7 @@ abbrev unsigned : Op → Op
 unsigned op.Subtract = op.Negate
 unsigned o = o
 
--- a cell behind its variable
+-- a cell after its variable
 abbrev pub read_cell : CVar → List Token → Part CCell
 read_cell v (_ ∷ t.word w.Numbers ∷ _ ∷ t.number (pos k) ∷ _ ∷ ts) = Some (cell.Number v.number k, ts)
 read_cell v (_ ∷ t.word w.References ∷ _ ∷ t.number (pos k) ∷ _ ∷ ts) = Some (cell.Reference v.number k, ts)

@@ -5,17 +5,17 @@ use Rattle.std.proofs.lemmas.Bool.{and_parts}
 use Rattle.std.proofs.lemmas.Option.{same_Some}
 use Rattle.c_syntax.specs.Tokens as t
 use Rattle.c_syntax.specs.Tokens.{Token, include, line_end, define, token_text}
-use Rattle.c_syntax.specs.Text.{Lexeme, Piece, piece, piece_or, first_beginning, signs, sign_piece, quoted_piece, quoted_end, is_text_name, fixed_piece, first_pieces, is_blank, is_run_byte, run, run_token, past_run, behind, IsAt, AreTokensOf, AreFirst}
+use Rattle.c_syntax.specs.Text.{Lexeme, Piece, piece, piece_or, first_beginning, signs, sign_piece, quoted_piece, quoted_end, is_text_name, fixed_piece, first_pieces, is_blank, is_run_byte, run, run_token, past_run, following, IsAt, AreTokensOf, AreFirst}
 use Rattle.c_reader_laws.specs.SyntaxLaws.Laws.{EachTextHasTokens}
 
 -- ---- a piece takes a byte at least
 
-behind_shorter : (fs bs after : List ℕ) → behind fs bs ≡ Some after → length bs ≡ length fs + length after
-behind_shorter [] bs after e = let same : length bs ≡ length after = ap length (same_Some bs after e) in omega (arith, same)
-behind_shorter (f ∷ fs) [] after e = absurd cc
-behind_shorter (f ∷ fs) (b ∷ bs) after e = by (f == b) e (λ h. behind_shorter fs bs after h)
+after_shorter : (fs bs after : List ℕ) → following fs bs ≡ Some after → length bs ≡ length fs + length after
+after_shorter [] bs after e = let same : length bs ≡ length after = ap length (same_Some bs after e) in omega (arith, same)
+after_shorter (f ∷ fs) [] after e = absurd cc
+after_shorter (f ∷ fs) (b ∷ bs) after e = by (f == b) e (λ h. after_shorter fs bs after h)
   where
-    by : (d : Bool) → (if d then behind fs bs else None) ≡ Some after → (behind fs bs ≡ Some after → length bs ≡ length fs + length after) → length (b ∷ bs) ≡ length (f ∷ fs) + length after
+    by : (d : Bool) → (if d then following fs bs else None) ≡ Some after → (following fs bs ≡ Some after → length bs ≡ length fs + length after) → length (b ∷ bs) ≡ length (f ∷ fs) + length after
     by true h again = let k = again h in omega (arith, k)
     by false h again = absurd cc
 
@@ -31,11 +31,11 @@ begun_shorter : (ts : List Token) (bs : List ℕ) (other : Piece) (n : ℕ) → 
 begun_shorter [] bs other n all whole rest = rest
 begun_shorter (t ∷ ts) bs other n all whole rest =
     let both = and_parts (is_some_text (token_text t)) (list_all (λ u. is_some_text (token_text u)) ts) all in
-    by (behind (token_text t) bs) refl (some_text (token_text t) both.0) (begun_shorter ts bs other n both.1 whole rest)
+    by (following (token_text t) bs) refl (some_text (token_text t) both.0) (begun_shorter ts bs other n both.1 whole rest)
   where
-    by : (o : Option (List ℕ)) → behind (token_text t) bs ≡ o → 1 ≤ length (token_text t) → length ((first_beginning ts bs other).1) ≤ n → length ((piece_or t o (first_beginning ts bs other)).1) ≤ n
+    by : (o : Option (List ℕ)) → following (token_text t) bs ≡ o → 1 ≤ length (token_text t) → length ((first_beginning ts bs other).1) ≤ n → length ((piece_or t o (first_beginning ts bs other)).1) ≤ n
     by None e some others = others
-    by (Some after) e some others = let size = behind_shorter (token_text t) bs after e in omega (arith, size, some, whole)
+    by (Some after) e some others = let size = after_shorter (token_text t) bs after e in omega (arith, size, some, whole)
 
 signed_shorter : (b : ℕ) (bs : List ℕ) → length ((sign_piece (b ∷ bs) bs).1) ≤ length bs
 unfolding sign_piece
@@ -53,16 +53,16 @@ abbrev chosen : Bool → Piece → Piece → Piece
 chosen d x y = if d then x else y
 
 quoted_shorter : (bs : List ℕ) → length ((quoted_piece bs).1) ≤ length bs
-quoted_shorter bs = by (behind (34 ∷ []) (past_run is_run_byte bs)) refl
+quoted_shorter bs = by (following (34 ∷ []) (past_run is_run_byte bs)) refl
   where
     name : (d : Bool) (cs after : List ℕ) → length after ≤ length bs → length ((chosen d (t.text cs, after) (t.stray, bs)).1) ≤ length bs
     name true cs after less = less
     name false cs after less = omega arith
 
-    by : (o : Option (List ℕ)) → behind (34 ∷ []) (past_run is_run_byte bs) ≡ o → length ((quoted_end (run is_run_byte bs) o bs).1) ≤ length bs
+    by : (o : Option (List ℕ)) → following (34 ∷ []) (past_run is_run_byte bs) ≡ o → length ((quoted_end (run is_run_byte bs) o bs).1) ≤ length bs
     by None e = omega arith
     by (Some after) e =
-        let size = behind_shorter (34 ∷ []) (past_run is_run_byte bs) after e in
+        let size = after_shorter (34 ∷ []) (past_run is_run_byte bs) after e in
         let less = past_shorter is_run_byte bs in
         name (is_text_name (run is_run_byte bs)) (run is_run_byte bs) after (omega (arith, size, less))
 

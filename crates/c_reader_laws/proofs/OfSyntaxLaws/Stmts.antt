@@ -48,14 +48,14 @@ begins_type _ = false
 
 -- expressions of at most this depth
 module _ (m : ℕ) where
-  -- what is set, behind `=`
+  -- what is set, after `=`
   abbrev read_set : CVar → List Token → Part Stmt
   read_set v ts =
       if begins_call ts then bind (read_call ts) (λ p. Some (c.set_call v p.0, drop 1 p.1))
       else bind (read_expr m ts) (λ p. Some (c.set v p.0, drop 1 p.1))
 
-  abbrev read_behind : CVar → List Token → Part Stmt
-  read_behind v ts =
+  abbrev read_after : CVar → List Token → Part Stmt
+  read_after v ts =
       if begins_arrow ts then bind (read_cell v ts) (λ p. bind (read_expr m (drop 1 p.1)) (λ q. Some (c.put p.0 q.0, drop 1 q.1)))
       else read_set v (drop 1 ts)
 
@@ -71,7 +71,7 @@ module _ (m : ℕ) where
   read_if read ts = bind (read_expr m ts) (λ p. bind (read (drop 2 p.1)) (λ q. read_else read p.0 q.0 (drop 1 q.1)))
 
   abbrev read_stmt : (List Token → Part Stmts) → List Token → Part Stmt
-  read_stmt read (t.variable v ∷ ts) = read_behind v ts
+  read_stmt read (t.variable v ∷ ts) = read_after v ts
   read_stmt read (t.name f ∷ ts) = bind (read_call (t.name f ∷ ts)) (λ p. Some (c.call p.0, drop 1 p.1))
   read_stmt read (t.primitive f ∷ ts) = bind (read_call (t.primitive f ∷ ts)) (λ p. Some (c.call p.0, drop 1 p.1))
   read_stmt read (t.word w.If ∷ _ ∷ ts) = read_if read ts

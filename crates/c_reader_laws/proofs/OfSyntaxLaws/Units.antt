@@ -184,16 +184,16 @@ abbrev heads_need : List Head → ℕ
 heads_need [] = 0
 heads_need (h ∷ hs) = head_need h + heads_need hs
 
--- what reading does behind a head
-abbrev behind_head : (k n : ℕ) → Head × List Token → Option Functions
-behind_head k n p =
+-- what reading does after a head
+abbrev after_head : (k n : ℕ) → Head × List Token → Option Functions
+after_head k n p =
     if begins_semicolon p.1 then bind (read_functions k n (drop 1 p.1)) (λ q. Some (p.0 ∷ q.0, q.1))
     else bind (read_body n p.0 (drop 1 p.1)) (λ q. bind (read_functions k n q.1) (λ r. Some (r.0, q.0 ∷ r.1)))
 
-begun : (k n : ℕ) (h : Head) (ts : List Token) → head_need h ≤ n → read_functions (suc k) n (head_then h ts) ≡ behind_head k n (h, ts)
+begun : (k n : ℕ) (h : Head) (ts : List Token) → head_need h ≤ n → read_functions (suc k) n (head_then h ts) ≡ after_head k n (h, ts)
 begun k n h ts enough =
-    ap (λ b. if b then Some ([], []) else bind (read_head n (head_then h ts)) (behind_head k n)) (some_head h ts)
-    ∙ ap (λ o. bind o (behind_head k n)) (head_read n h ts (omega (arith, enough)))
+    ap (λ b. if b then Some ([], []) else bind (read_head n (head_then h ts)) (after_head k n)) (some_head h ts)
+    ∙ ap (λ o. bind o (after_head k n)) (head_read n h ts (omega (arith, enough)))
 
 bodies_read : (k n : ℕ) (bs : List Body) → length bs < k → bodies_need bs ≤ n → AreBodies language bs → read_functions k n (bodies_then bs []) ≡ Some ([], bs)
 bodies_read zero n bs few enough are = absurd (omega (arith, few))

@@ -4,17 +4,17 @@ use Rattle.std.proofs.lemmas.Bool.{eq-eqb}
 use Rattle.vlt_core.specs.Maps.{HeldMap}
 use Rattle.vlt_core.specs.Flow.{Flow, step, choose, loop, switch, scope, focus, return, jump, Block, block, Stmts, done, next, Arms, no_arms, arm, size, size_block, passes_block, passes_arms}
 use Rattle.vlt_core.specs.Local.{Notes, IsLocalBlock}
-use Rattle.vlt_core.specs.Least.{Note, at_loop, at_join, Noted, a_loop, a_join, noted_by, noted, noted_block, noted_stmts, noted_arms, around_in, behind_in, notes_in}
+use Rattle.vlt_core.specs.Least.{Note, at_loop, at_join, Noted, a_loop, a_join, noted_by, noted, noted_block, noted_stmts, noted_arms, around_in, after_in, notes_in}
 use Rattle.vlt_core_laws.proofs.Binding.{on_true}
 use Rattle.vlt_flow.proofs.OfNotes.Alike.{Same, SameBlock, SameStmts, SameArms, local_block_alike}
 use Rattle.cert_fit_laws.proofs.Named.{number_of, Climbs}
 use Rattle.cert_least_laws.proofs.Climbing.{climb_block}
-use Rattle.cert_least_laws.proofs.OneList.{around_past, behind_past}
+use Rattle.cert_least_laws.proofs.OneList.{around_past, after_past}
 
 -- the note of a statement
 abbrev pub read : Notes → Noted → Note
-read a (a_loop n) = at_loop n (a.around n) (a.behind n)
-read a (a_join n) = at_join n (a.behind n)
+read a (a_loop n) = at_loop n (a.around n) (a.following n)
+read a (a_join n) = at_join n (a.following n)
 
 pub named_back : (a : Notes) (xs : List Noted) → map noted_by (map (read a) xs) ≡ xs
 named_back a [] = refl
@@ -26,8 +26,8 @@ named_back a (a_join n ∷ xs) = ap (λ ys. a_join n ∷ ys) (named_back a xs)
 module _ (a b : Notes) where
   abbrev Agree : List Noted → Type 0
   Agree [] = Unit {0}
-  Agree (a_loop n ∷ xs) = (a.around n ≡ b.around n) × (a.behind n ≡ b.behind n) × Agree xs
-  Agree (a_join n ∷ xs) = (a.behind n ≡ b.behind n) × Agree xs
+  Agree (a_loop n ∷ xs) = (a.around n ≡ b.around n) × (a.following n ≡ b.following n) × Agree xs
+  Agree (a_join n ∷ xs) = (a.following n ≡ b.following n) × Agree xs
 
   agree_left : (xs ys : List Noted) → Agree (xs ++ ys) → Agree xs
   agree_left [] ys e = tt
@@ -39,7 +39,7 @@ module _ (a b : Notes) where
   agree_right (a_loop n ∷ xs) ys e = agree_right xs ys e.2
   agree_right (a_join n ∷ xs) ys e = agree_right xs ys e.1
 
-  agree_own : (n : ℕ) (c : Bool) → Agree (if c then a_join n ∷ [] else []) → c ≡ true → a.behind n ≡ b.behind n
+  agree_own : (n : ℕ) (c : Bool) → Agree (if c then a_join n ∷ [] else []) → c ≡ true → a.following n ≡ b.following n
   agree_own n true e q = e.0
   agree_own n false e q = absurd (true≢false (sym q))
 
@@ -87,10 +87,10 @@ agree_past : (a : Notes) (y : Note) (ys : List Note) (xs : List Noted) (m k : �
 agree_past a y ys [] m k less c e = tt
 agree_past a y ys (a_loop n ∷ xs) m k less c e =
     let above = over (number_of (noted_by y)) m n less c.0 in
-    (e.0 ∙ sym (around_past y ys n above), e.1 ∙ sym (behind_past y ys n above), agree_past a y ys xs (suc n) k (after (number_of (noted_by y)) m n less c.0) c.1 e.2)
+    (e.0 ∙ sym (around_past y ys n above), e.1 ∙ sym (after_past y ys n above), agree_past a y ys xs (suc n) k (after (number_of (noted_by y)) m n less c.0) c.1 e.2)
 agree_past a y ys (a_join n ∷ xs) m k less c e =
     let above = over (number_of (noted_by y)) m n less c.0 in
-    (e.0 ∙ sym (behind_past y ys n above), agree_past a y ys xs (suc n) k (after (number_of (noted_by y)) m n less c.0) c.1 e.1)
+    (e.0 ∙ sym (after_past y ys n above), agree_past a y ys xs (suc n) k (after (number_of (noted_by y)) m n less c.0) c.1 e.1)
 
 first : (n : ℕ) (u v : HeldMap) → (if n == n then u else v) ≡ u
 first n u v = on_true (n == n) u v (eq-eqb n n refl)
@@ -100,12 +100,12 @@ agree_read a [] m k c = tt
 agree_read a (a_loop n ∷ xs) m k c =
     let ys = map (read a) xs in (
       sym (first n (a.around n) (around_in ys n)),
-      sym (first n (a.behind n) (behind_in ys n)),
-      agree_past a (at_loop n (a.around n) (a.behind n)) ys xs (suc n) k (least_number n) c.1 (agree_read a xs (suc n) k c.1),
+      sym (first n (a.following n) (after_in ys n)),
+      agree_past a (at_loop n (a.around n) (a.following n)) ys xs (suc n) k (least_number n) c.1 (agree_read a xs (suc n) k c.1),
     )
 agree_read a (a_join n ∷ xs) m k c =
     let ys = map (read a) xs in
-    (sym (first n (a.behind n) (behind_in ys n)), agree_past a (at_join n (a.behind n)) ys xs (suc n) k (least_number n) c.1 (agree_read a xs (suc n) k c.1))
+    (sym (first n (a.following n) (after_in ys n)), agree_past a (at_join n (a.following n)) ys xs (suc n) k (least_number n) c.1 (agree_read a xs (suc n) k c.1))
 
 -- so they hold where it does
 pub read_local : (a : Notes) (s : Block) (h : HeldMap) → IsLocalBlock a None 0 h s → IsLocalBlock (notes_in (map (read a) (noted_block 0 s))) None 0 h s

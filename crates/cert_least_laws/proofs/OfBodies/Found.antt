@@ -33,7 +33,7 @@ one_kind_in u S within o q x y = sym (has_kind u o (within o x)) ∙ has_kind u 
 -- at each statement the maps show just what is found, where that is of one kind
 pub record ShowFound (s : Block) (h : HeldMap) (a : Notes) : Type 0 where
   pub around : (t : Tok) (i : ℕ) → IsOneKind (found_head_block t s 0 (Has (h t)) i) → IsJust (a.around i t) (found_head_block t s 0 (Has (h t)) i)
-  pub behind : (t : Tok) (i : ℕ) → IsOneKind (found_exit_block t s 0 (Has (h t)) i) → IsJust (a.behind i t) (found_exit_block t s 0 (Has (h t)) i)
+  pub following : (t : Tok) (i : ℕ) → IsOneKind (found_exit_block t s 0 (Has (h t)) i) → IsJust (a.following i t) (found_exit_block t s 0 (Has (h t)) i)
 
 module _ (s : Block) (h : HeldMap) (a : Notes) (shows : ShowFound s h a) (g : Tok → Bool) (scoped : IsScopedBlock g s) where
   -- the map at a head lies below that of each annotation that holds, if something of each token is found there
@@ -41,20 +41,20 @@ module _ (s : Block) (h : HeldMap) (a : Notes) (shows : ShowFound s h a) (g : To
     head_in : (t : Tok) (i : ℕ) (o : One) → found_head_block t s 0 (Has (h t)) i o → Has (b.around i t) o
     head_in t i o x = heads_in_block t b s g None 0 h (Has (h t)) scoped (record { each = λ o x. x }) local i o x
 
-    exit_in : (t : Tok) (i : ℕ) (o : One) → found_exit_block t s 0 (Has (h t)) i o → Has (b.behind i t) o
+    exit_in : (t : Tok) (i : ℕ) (o : One) → found_exit_block t s 0 (Has (h t)) i o → Has (b.following i t) o
     exit_in t i o x = exits_in_block t b s g None 0 h (Has (h t)) scoped (record { each = λ o x. x }) local i o x
 
     pub head_just : (t : Tok) (i : ℕ) → IsJust (a.around i t) (found_head_block t s 0 (Has (h t)) i)
     head_just t i = shows.around t i (one_kind_in (b.around i t) (found_head_block t s 0 (Has (h t)) i) (head_in t i))
 
-    pub exit_just : (t : Tok) (i : ℕ) → IsJust (a.behind i t) (found_exit_block t s 0 (Has (h t)) i)
-    exit_just t i = shows.behind t i (one_kind_in (b.behind i t) (found_exit_block t s 0 (Has (h t)) i) (exit_in t i))
+    pub exit_just : (t : Tok) (i : ℕ) → IsJust (a.following i t) (found_exit_block t s 0 (Has (h t)) i)
+    exit_just t i = shows.following t i (one_kind_in (b.following i t) (found_exit_block t s 0 (Has (h t)) i) (exit_in t i))
 
     head_below : (i : ℕ) → ((t : Tok) → (o : One) × found_head_block t s 0 (Has (h t)) i o) → IsBelow (a.around i) (b.around i)
     head_below i some = map_below (a.around i) (b.around i) (λ t. found_head_block t s 0 (Has (h t)) i) (λ t. record { there = (head_just t i).there; back = (head_just t i).back; some = some t }) (λ t o x. head_in t i o x)
 
-    exit_below : (i : ℕ) → ((t : Tok) → (o : One) × found_exit_block t s 0 (Has (h t)) i o) → IsBelow (a.behind i) (b.behind i)
-    exit_below i some = map_below (a.behind i) (b.behind i) (λ t. found_exit_block t s 0 (Has (h t)) i) (λ t. record { there = (exit_just t i).there; back = (exit_just t i).back; some = some t }) (λ t o x. exit_in t i o x)
+    exit_below : (i : ℕ) → ((t : Tok) → (o : One) × found_exit_block t s 0 (Has (h t)) i o) → IsBelow (a.following i) (b.following i)
+    exit_below i some = map_below (a.following i) (b.following i) (λ t. found_exit_block t s 0 (Has (h t)) i) (λ t. record { there = (exit_just t i).there; back = (exit_just t i).back; some = some t }) (λ t o x. exit_in t i o x)
 
     all_below : (xs : List Noted) → ((t : Tok) → AreSome (found_head_block t s 0 (Has (h t))) (found_exit_block t s 0 (Has (h t))) xs) → LieBelow b (map (read a) xs)
     all_below [] some = tt

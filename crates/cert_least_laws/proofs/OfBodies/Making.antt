@@ -41,8 +41,8 @@ use Rattle.cert_least_laws.proofs.OfBodies.TidyBodies.{stmts_tidy, start_tidy}
 
 -- the note of a statement: a map of each instance
 abbrev pub made : (vars : ℕ) → List Notes → Noted → Note
-made n list (a_loop i) = at_loop i (map (λ a. list_of n (a.around i)) list) (map (λ a. list_of n (a.behind i)) list)
-made n list (a_join i) = at_join i (map (λ a. list_of n (a.behind i)) list)
+made n list (a_loop i) = at_loop i (map (λ a. list_of n (a.around i)) list) (map (λ a. list_of n (a.following i)) list)
+made n list (a_join i) = at_join i (map (λ a. list_of n (a.following i)) list)
 
 names_made : (n : ℕ) (list : List Notes) (xs : List Noted) → map named_by (map (made n list) xs) ≡ xs
 names_made n list [] = refl
@@ -52,8 +52,8 @@ names_made n list (a_join i ∷ xs) = ap (λ ys. a_join i ∷ ys) (names_made n 
 -- the maps of the statements are tidy
 abbrev pub AreTidyMaps : Func → List Noted → Notes → Type 0
 AreTidyMaps f [] a = Unit {0}
-AreTidyMaps f (a_loop i ∷ xs) a = IsTidyMap f (a.around i) × IsTidyMap f (a.behind i) × AreTidyMaps f xs a
-AreTidyMaps f (a_join i ∷ xs) a = IsTidyMap f (a.behind i) × AreTidyMaps f xs a
+AreTidyMaps f (a_loop i ∷ xs) a = IsTidyMap f (a.around i) × IsTidyMap f (a.following i) × AreTidyMaps f xs a
+AreTidyMaps f (a_join i ∷ xs) a = IsTidyMap f (a.following i) × AreTidyMaps f xs a
 
 each_of : {P Q : Notes → Type 0} → ((a : Notes) → P a → Q a) → (list : List Notes) → All P list → All Q list
 each_of go [] all = tt
@@ -84,11 +84,11 @@ module _ (f : Func) (few_keys : length f.keys ≤ 256) (few_vars : length f.vars
   made_say list i a at [] are = refl
   made_say list i a at (a_loop n ∷ xs) are =
       let rest = map (note_at i) (map (made (length f.vars) list) xs) in
-      ap (λ m. least.at_loop n m (map_at i (map (λ a. list_of (length f.vars) (a.behind n)) list)) ∷ rest) (says list i a at (λ a. a.around n) are.0) ∙
-      (ap (λ m. least.at_loop n (a.around n) m ∷ rest) (says list i a at (λ a. a.behind n) are.1) ∙ ap (λ ys. least.at_loop n (a.around n) (a.behind n) ∷ ys) (made_say list i a at xs are.2))
+      ap (λ m. least.at_loop n m (map_at i (map (λ a. list_of (length f.vars) (a.following n)) list)) ∷ rest) (says list i a at (λ a. a.around n) are.0) ∙
+      (ap (λ m. least.at_loop n (a.around n) m ∷ rest) (says list i a at (λ a. a.following n) are.1) ∙ ap (λ ys. least.at_loop n (a.around n) (a.following n) ∷ ys) (made_say list i a at xs are.2))
   made_say list i a at (a_join n ∷ xs) are =
       let rest = map (note_at i) (map (made (length f.vars) list) xs) in
-      ap (λ m. least.at_join n m ∷ rest) (says list i a at (λ a. a.behind n) are.0) ∙ ap (λ ys. least.at_join n (a.behind n) ∷ ys) (made_say list i a at xs are.1)
+      ap (λ m. least.at_join n m ∷ rest) (says list i a at (λ a. a.following n) are.0) ∙ ap (λ ys. least.at_join n (a.following n) ∷ ys) (made_say list i a at xs are.1)
 
   lists_fit : (g : Notes → HeldMap) (list : List Notes) → All (λ a. IsTidyMap f (g a)) list → All map_part.Fits (map (λ a. list_of (length f.vars) (g a)) list)
   lists_fit g [] all = tt
@@ -101,10 +101,10 @@ module _ (f : Func) (few_keys : length f.keys ≤ 256) (few_vars : length f.vars
     made_fit : (xs : List Noted) → All (AreTidyMaps f xs) list → All (FitsNote many) (map (made (length f.vars) list) xs)
     made_fit [] all = tt
     made_fit (a_loop n ∷ xs) all = (
-      (side_fits (λ a. a.around n) (each_of (λ a t. t.0) list all), side_fits (λ a. a.behind n) (each_of (λ a t. t.1) list all)),
+      (side_fits (λ a. a.around n) (each_of (λ a t. t.0) list all), side_fits (λ a. a.following n) (each_of (λ a t. t.1) list all)),
       made_fit xs (each_of (λ a t. t.2) list all),
     )
-    made_fit (a_join n ∷ xs) all = (side_fits (λ a. a.behind n) (each_of (λ a t. t.0) list all), made_fit xs (each_of (λ a t. t.1) list all))
+    made_fit (a_join n ∷ xs) all = (side_fits (λ a. a.following n) (each_of (λ a t. t.0) list all), made_fit xs (each_of (λ a t. t.1) list all))
 
 -- ---- the annotation of one instance, and those of all
 
@@ -171,7 +171,7 @@ module _ (p : Program) (g : ℕ) (f : Func) (there : slice_get p.fns g ≡ Some 
         ((head_just (body p f' fit) (start p f' fit) is.notes is.shows fit.scope fit.scoped is.notes is.local t i).back q h);
   }
 
-  exit_tidy : (i : ℕ) → ((t : Tok) → (q : One) × found_exit_block t (body p f' fit) 0 (Has (start p f' fit t)) i q) → IsTidyMap f (is.notes.behind i)
+  exit_tidy : (i : ℕ) → ((t : Tok) → (q : One) × found_exit_block t (body p f' fit) 0 (Has (start p f' fit t)) i q) → IsTidyMap f (is.notes.following i)
   exit_tidy i some = record {
     some = λ t. let q = some t in (q.0, (exit_just (body p f' fit) (start p f' fit) is.notes is.shows fit.scope fit.scoped is.notes is.local t i).there q.0 q.1);
     tidy = λ t q h. exits_keep_block t (IsTidyOne f t) (tidy_absent f t) (IsTidy f) (tidy_kept f t) (body p f' fit) 0 (Has (start p f' fit t)) tidy_rows (start_tidy p g f there b sets ranged o entries t) i q

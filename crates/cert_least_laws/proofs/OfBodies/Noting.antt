@@ -107,12 +107,12 @@ module _ (p : Program) (f : Func) (o : Option ℕ) (made : IsMade p f o) (k : Ma
       (⊎_elim (λ far. beyond n many far few (numbered (suc n) many xs climbs.1))
       (⊎_elim
       (has_list (length f.keys) (length f.vars) (slot k.around n) (made.notes.around n) kept.0 (under.around n) (tidy_only f (made.notes.around n) tidy.0))
-      (has_list (length f.keys) (length f.vars) (slot k.behind n) (made.notes.behind n) kept.1 (under.behind n) (tidy_only f (made.notes.behind n) tidy.1))))
+      (has_list (length f.keys) (length f.vars) (slot k.following n) (made.notes.following n) kept.1 (under.following n) (tidy_only f (made.notes.following n) tidy.1))))
       (none_lack many (suc n) xs few climbs.1 tidy.2 kept.2) lacks
   none_lack many from (a_join n ∷ xs) few climbs tidy kept lacks =
       ⊎_elim
       (⊎_elim (λ far. beyond n many far few (numbered (suc n) many xs climbs.1))
-      (has_list (length f.keys) (length f.vars) (slot k.behind n) (made.notes.behind n) kept.0 (under.behind n) (tidy_only f (made.notes.behind n) tidy.0)))
+      (has_list (length f.keys) (length f.vars) (slot k.following n) (made.notes.following n) kept.0 (under.following n) (tidy_only f (made.notes.following n) tidy.0)))
       (none_lack many (suc n) xs few climbs.1 tidy.1 kept.1) lacks
 
   are_noted : (fit : IsFitBody p (instance p f o)) → noted_block 0 (body_flow p (instance p f o)) ≡ noted_block 0 (body_flow p f) → size_block (body_flow p (instance p f o)) < 2 ^ 32 →

@@ -144,7 +144,7 @@ module _ (t : Tok) (a : Notes) where
         let T = images t rs S in
         let H = found_head t (switch rs arms end) n S in
         let B = found_exit t (switch rs arms end) n S in
-        let one = arms_some arms g l (n + 1) (map_after rs h) (a.behind n) T c.1 f.1 (images_in t rs S h p) d.1 q in
+        let one = arms_some arms g l (n + 1) (map_after rs h) (a.following n) T c.1 f.1 (images_in t rs S h p) d.1 q in
         let own = if passes_arms arms then a_join n ∷ [] else [] in (
           one.0,
           some_joined H B own (noted_arms (n + 1) arms)

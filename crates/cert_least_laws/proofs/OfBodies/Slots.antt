@@ -11,22 +11,22 @@ module _ (k : Marks) where
   -- the maps of these statements are kept
   abbrev pub AreKept : List Noted → Type 0
   AreKept [] = Unit {0}
-  AreKept (a_loop n ∷ xs) = IsSome (slot k.around n) × IsSome (slot k.behind n) × AreKept xs
-  AreKept (a_join n ∷ xs) = IsSome (slot k.behind n) × AreKept xs
+  AreKept (a_loop n ∷ xs) = IsSome (slot k.around n) × IsSome (slot k.following n) × AreKept xs
+  AreKept (a_join n ∷ xs) = IsSome (slot k.following n) × AreKept xs
 
   both : (xs ys : List Noted) → AreKept xs → AreKept ys → AreKept (xs ++ ys)
   both [] ys a b = b
   both (a_loop n ∷ xs) ys a b = (a.0, a.1, both xs ys a.2 b)
   both (a_join n ∷ xs) ys a b = (a.0, both xs ys a.1 b)
 
-  join : (n : ℕ) (b : Bool) → (b ≡ true → IsSome (slot k.behind n)) → AreKept (if b then a_join n ∷ [] else [])
+  join : (n : ℕ) (b : Bool) → (b ≡ true → IsSome (slot k.following n)) → AreKept (if b then a_join n ∷ [] else [])
   join n true some = (some refl, tt)
   join n false some = tt
 
   -- nothing comes after a statement that can't be passed
-  behind : (b : Bool) (ss : Stmts) (n : ℕ) → (b ≡ true → AreKept (noted_stmts n ss)) → (b ≡ false → ss ≡ done) → AreKept (noted_stmts n ss)
-  behind true ss n kept none = kept refl
-  behind false ss n kept none = subst (λ ss. AreKept (noted_stmts n ss)) (sym (none refl)) tt
+  following : (b : Bool) (ss : Stmts) (n : ℕ) → (b ≡ true → AreKept (noted_stmts n ss)) → (b ≡ false → ss ≡ done) → AreKept (noted_stmts n ss)
+  following true ss n kept none = kept refl
+  following false ss n kept none = subst (λ ss. AreKept (noted_stmts n ss)) (sym (none refl)) tt
 
   mutual
     in_form : (s : Flow) (g : Tok → Bool) (n : ℕ) → IsScoped g s → Keeps k n s → AreKept (noted n s)
@@ -48,7 +48,7 @@ module _ (k : Marks) where
 
     in_stmts : (ss : Stmts) (g : Tok → Bool) (n : ℕ) → IsScopedStmts g ss → KeepsStmts k n ss → AreKept (noted_stmts n ss)
     in_stmts done g n c h = tt
-    in_stmts (next at s rest) g n c h = both (noted n s) _ (in_form s g n c.0 h.0) (behind (passes s) rest (n + size s) (λ e. in_stmts rest g (n + size s) c.2 (h.1 e)) c.1)
+    in_stmts (next at s rest) g n c h = both (noted n s) _ (in_form s g n c.0 h.0) (following (passes s) rest (n + size s) (λ e. in_stmts rest g (n + size s) c.2 (h.1 e)) c.1)
 
     in_arms : (arms : Arms) (g : Tok → Bool) (n : ℕ) → IsScopedArms g arms → KeepsArms k n arms → AreKept (noted_arms n arms)
     in_arms no_arms g n c h = tt

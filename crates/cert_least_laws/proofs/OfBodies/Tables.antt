@@ -32,27 +32,27 @@ module _ (s : Block) (h : HeldMap) where
 
   module _ (all : AreTabled) where
     abbrev stock : Tok → Stock
-    stock t = record { around = λ i. (all.heads i).many t; behind = λ i. (all.exits i).many t }
+    stock t = record { around = λ i. (all.heads i).many t; following = λ i. (all.exits i).many t }
 
     abbrev notes : Notes
-    notes = record { around = λ i t. read ((all.heads i).many t) ((all.heads i).lent t); behind = λ i t. read ((all.exits i).many t) ((all.exits i).lent t) }
+    notes = record { around = λ i t. read ((all.heads i).many t) ((all.heads i).lent t); following = λ i t. read ((all.exits i).many t) ((all.exits i).lent t) }
 
     founds : (t : Tok) → IsFoundIn t s (Has (h t)) (stock t)
     founds t = record {
       around = λ i o. let x = (all.heads i).each t o in (x.there, x.back);
-      behind = λ i o. let x = (all.exits i).each t o in (x.there, x.back);
+      following = λ i o. let x = (all.exits i).each t o in (x.there, x.back);
     }
 
     reads : IsReadOf notes stock
     reads = record {
       around = λ t i k. let x = all.heads i in let y = read_stands (x.many t) k (x.lent t) (lent_test _ x t) in record { there = y.there; back = y.back };
-      behind = λ t i k. let x = all.exits i in let y = read_stands (x.many t) k (x.lent t) (lent_test _ x t) in record { there = y.there; back = y.back };
+      following = λ t i k. let x = all.exits i in let y = read_stands (x.many t) k (x.lent t) (lent_test _ x t) in record { there = y.there; back = y.back };
     }
 
     shows : ShowFound s h notes
     shows = record {
       around = λ t i k. let y = tabled_stands (λ t. found_head_block t s 0 (Has (h t)) i) (all.heads i) t k in record { there = y.there; back = y.back };
-      behind = λ t i k. let y = tabled_stands (λ t. found_exit_block t s 0 (Has (h t)) i) (all.exits i) t k in record { there = y.there; back = y.back };
+      following = λ t i k. let y = tabled_stands (λ t. found_exit_block t s 0 (Has (h t)) i) (all.exits i) t k in record { there = y.there; back = y.back };
     }
 
     local : IsFit s → IsStart h → ((t : Tok) → HasFaultBlock t s (Has (h t)) → ⊥) → IsLocalBlock notes None 0 h s

@@ -14,7 +14,7 @@ use Rattle.vlt_core.specs.Bodies.{flow_of, flow_of_block, flow_of_stmts, flow_of
 use Rattle.vlt_core.specs.Derives.{status_at_start, start_map}
 use Rattle.vlt_core.specs.KindedHeads.{unless, has, entry_broken}
 use Rattle.vlt_core.specs.KindedScopes.{Ids, Around, at_block_start, left_behind}
-use Rattle.vlt_core.specs.KindedBodies.{in_loop, in_focus, with_focus, with_vars, ends, ids_behind, ids_behind_block, row_broken, form_rows, block_rows, stmts_rows, arms_rows}
+use Rattle.vlt_core.specs.KindedBodies.{in_loop, in_focus, with_focus, with_vars, ends, ids_following, ids_following_block, row_broken, form_rows, block_rows, stmts_rows, arms_rows}
 use Rattle.vlt_core.specs.declared.rules.TheConstants as rule
 use Rattle.vlt_core_laws.proofs.Binding.{in_range}
 use Rattle.vlt_core_laws.proofs.Headed.{each_at}
@@ -32,10 +32,10 @@ module _ (p : Program) (g : ℕ) (f : Func) (there : slice_get p.fns g ≡ Some 
     form_tidy (core.simple s) around ids left e rows = simple_tidy p g f there b sets ranged ids s e
     form_tidy (core.call c target keys args) around ids left e rows = call_tidy p g f there b sets ranged ids c target keys args left e
     form_tidy (core.choose x u v) around ids left e rows =
-        let behind = ids_behind_block p f u ids in (
+        let following = ids_following_block p f u ids in (
           expr_tidy p g f there b sets ranged x,
-          block_tidy u around ids left (each_left (block_rows p f around ids u) (block_rows p f around behind v) rows),
-          block_tidy v around behind left (each_right (block_rows p f around ids u) (block_rows p f around behind v) rows),
+          block_tidy u around ids left (each_left (block_rows p f around ids u) (block_rows p f around following v) rows),
+          block_tidy v around following left (each_right (block_rows p f around ids u) (block_rows p f around following v) rows),
         )
     form_tidy (core.loop x u) around ids left e rows = (expr_tidy p g f there b sets ranged x, block_tidy u (in_loop around) ids [] rows)
     form_tidy (core.switch v arms end) around ids left e rows = (switch_tidy p g f there b sets ranged (is_owning_var f v) v, arms_tidy arms v around ids left rows)
@@ -51,19 +51,19 @@ module _ (p : Program) (g : ℕ) (f : Func) (there : slice_get p.fns g ≡ Some 
     pub stmts_tidy : (ss : core.Stmts) (around : Around) (ids : Ids) (ended : Bool) (left : List Tok) → EachEmpty (stmts_rows p f around ids ended ss) → EachRowStmts (IsTidy f) (flow_of_stmts p (instance p f o) left ss)
     stmts_tidy core.done around ids ended left rows = tt
     stmts_tidy (core.next at s rest) around ids ended left rows =
-        let behind = ids_behind p f s ids in (
-          form_tidy s around ids left (right_empty (unless (not ended) rule.BEHIND_END) (row_broken p f around ids s) rows.0) (each_left (form_rows p f around ids s) (stmts_rows p f around behind (ends s) rest) rows.1),
-          stmts_tidy rest around behind (ends s) left (each_right (form_rows p f around ids s) (stmts_rows p f around behind (ends s) rest) rows.1),
+        let following = ids_following p f s ids in (
+          form_tidy s around ids left (right_empty (unless (not ended) rule.AFTER_END) (row_broken p f around ids s) rows.0) (each_left (form_rows p f around ids s) (stmts_rows p f around following (ends s) rest) rows.1),
+          stmts_tidy rest around following (ends s) left (each_right (form_rows p f around ids s) (stmts_rows p f around following (ends s) rest) rows.1),
         )
 
     arms_tidy : (arms : core.Arms) (v : ℕ) (around : Around) (ids : Ids) (left : List Tok) → EachEmpty (arms_rows p f around ids arms) → EachRowArms (IsTidy f) (flow_of_arms p (instance p f o) left v arms)
     arms_tidy core.no_arms v around ids left rows = tt
     arms_tidy (core.arm c vs u rest) v around ids left rows =
         let inside = with_vars f vs ids in
-        let behind = left_behind ids (ids_behind_block p f u inside) in (
+        let following = left_behind ids (ids_following_block p f u inside) in (
           arm_tidy p g f there b sets ranged v c vs,
-          block_tidy u around inside left (each_left (block_rows p f around inside u) (arms_rows p f around behind rest) rows),
-          arms_tidy rest v around behind left (each_right (block_rows p f around inside u) (arms_rows p f around behind rest) rows),
+          block_tidy u around inside left (each_left (block_rows p f around inside u) (arms_rows p f around following rest) rows),
+          arms_tidy rest v around following left (each_right (block_rows p f around inside u) (arms_rows p f around following rest) rows),
         )
 
   -- ---- where the body begins

@@ -66,7 +66,7 @@ module _ (t : Tok) (a : Notes) where
         let top = at_head rs s l n h S p d in
         ⊎_elim (λ y. subst (λ j. Has (a.around j t) o) (sym y.0) (top.each o y.1))
         (heads_in_block s g (Some n) (n + 1) (map_after rs (a.around n)) (images t rs (head_of t rs s S)) c.1 (images_in t rs (head_of t rs s S) (a.around n) top) d.3 i o) x
-    heads_in (switch rs arms end) g l n h S c p d i o x = heads_in_arms arms g l (n + 1) (map_after rs h) (a.behind n) (images t rs S) c.1 (images_in t rs S h p) d.1 i o x
+    heads_in (switch rs arms end) g l n h S c p d i o x = heads_in_arms arms g l (n + 1) (map_after rs h) (a.following n) (images t rs S) c.1 (images_in t rs S h p) d.1 i o x
     heads_in (scope s) g l n h S c p d i o x = heads_in_block s g l (n + 1) h S c p d i o x
     heads_in (focus rs s es) g l n h S c p d i o x = heads_in_block s _ l (n + 1) (map_after rs h) (images t rs S) c.2 (images_in t rs S h p) d.1 i o x
     heads_in (return rs) g l n h S c p d i o x = absurd x
@@ -91,35 +91,35 @@ module _ (t : Tok) (a : Notes) where
   -- ---- after loops and choices
 
   mutual
-    exits_in : (s : Flow) (g : Tok → Bool) (l : Option ℕ) (n : ℕ) (h : HeldMap) (S : Ones) → IsScoped g s → IsIn S (h t) → IsLocal a l n h s → (i : ℕ) (o : One) → found_exit t s n S i o → Has (a.behind i t) o
+    exits_in : (s : Flow) (g : Tok → Bool) (l : Option ℕ) (n : ℕ) (h : HeldMap) (S : Ones) → IsScoped g s → IsIn S (h t) → IsLocal a l n h s → (i : ℕ) (o : One) → found_exit t s n S i o → Has (a.following i t) o
     exits_in (step rs) g l n h S c p d i o x = absurd x
     exits_in (choose rs u v) g l n h S c p d i o x = ⊎_elim
-        (λ y. subst (λ j. Has (a.behind j t) o) (sym y.0) (only_has (passes_block u || passes_block v) (a.behind n) t o ((local_out (choose rs u v) t a l n h S p d).0.next o y.1)))
+        (λ y. subst (λ j. Has (a.following j t) o) (sym y.0) (only_has (passes_block u || passes_block v) (a.following n) t o ((local_out (choose rs u v) t a l n h S p d).0.next o y.1)))
         (⊎_elim
         (exits_in_block u g l (n + 1) (map_after rs h) (images t rs S) c.1 (images_in t rs S h p) d.1 i o)
         (exits_in_block v g l (n + 1 + size_block u) (map_after rs h) (images t rs S) c.2 (images_in t rs S h p) d.2 i o)) x
     exits_in (loop rs s) g l n h S c p d i o x = ⊎_elim
-        (λ y. subst (λ j. Has (a.behind j t) o) (sym y.0) ((local_out (loop rs s) t a l n h S p d).0.next o y.1))
+        (λ y. subst (λ j. Has (a.following j t) o) (sym y.0) ((local_out (loop rs s) t a l n h S p d).0.next o y.1))
         (exits_in_block s g (Some n) (n + 1) (map_after rs (a.around n)) (images t rs (head_of t rs s S)) c.1 (images_in t rs (head_of t rs s S) (a.around n) (at_head rs s l n h S p d)) d.3 i o) x
     exits_in (switch rs arms end) g l n h S c p d i o x = ⊎_elim
-        (λ y. subst (λ j. Has (a.behind j t) o) (sym y.0) (only_has (passes_arms arms) (a.behind n) t o ((local_out (switch rs arms end) t a l n h S p d).0.next o y.1)))
-        (exits_in_arms arms g l (n + 1) (map_after rs h) (a.behind n) (images t rs S) c.1 (images_in t rs S h p) d.1 i o) x
+        (λ y. subst (λ j. Has (a.following j t) o) (sym y.0) (only_has (passes_arms arms) (a.following n) t o ((local_out (switch rs arms end) t a l n h S p d).0.next o y.1)))
+        (exits_in_arms arms g l (n + 1) (map_after rs h) (a.following n) (images t rs S) c.1 (images_in t rs S h p) d.1 i o) x
     exits_in (scope s) g l n h S c p d i o x = exits_in_block s g l (n + 1) h S c p d i o x
     exits_in (focus rs s es) g l n h S c p d i o x = exits_in_block s _ l (n + 1) (map_after rs h) (images t rs S) c.2 (images_in t rs S h p) d.1 i o x
     exits_in (return rs) g l n h S c p d i o x = absurd x
     exits_in (jump k left) g l n h S c p d i o x = absurd x
 
-    pub exits_in_block : (s : Block) (g : Tok → Bool) (l : Option ℕ) (n : ℕ) (h : HeldMap) (S : Ones) → IsScopedBlock g s → IsIn S (h t) → IsLocalBlock a l n h s → (i : ℕ) (o : One) → found_exit_block t s n S i o → Has (a.behind i t) o
+    pub exits_in_block : (s : Block) (g : Tok → Bool) (l : Option ℕ) (n : ℕ) (h : HeldMap) (S : Ones) → IsScopedBlock g s → IsIn S (h t) → IsLocalBlock a l n h s → (i : ℕ) (o : One) → found_exit_block t s n S i o → Has (a.following i t) o
     exits_in_block (block ss bound end) g l n h S c p d i o x = exits_in_stmts ss _ l n h S c.1 p d.0 i o x
 
-    exits_in_stmts : (ss : Stmts) (g : Tok → Bool) (l : Option ℕ) (n : ℕ) (h : HeldMap) (S : Ones) → IsScopedStmts g ss → IsIn S (h t) → IsLocalStmts a l n h ss → (i : ℕ) (o : One) → found_exit_stmts t ss n S i o → Has (a.behind i t) o
+    exits_in_stmts : (ss : Stmts) (g : Tok → Bool) (l : Option ℕ) (n : ℕ) (h : HeldMap) (S : Ones) → IsScopedStmts g ss → IsIn S (h t) → IsLocalStmts a l n h ss → (i : ℕ) (o : One) → found_exit_stmts t ss n S i o → Has (a.following i t) o
     exits_in_stmts done g l n h S c p d i o x = absurd x
     exits_in_stmts (next at s rest) g l n h S c p d i o x = ⊎_elim
         (exits_in s g l n h S c.0 p d.0 i o)
-        (λ y. rest_case t a l n h S s rest (λ ss. found_exit_stmts t ss (n + size s) (out t s S to_next) i o) (Has (a.behind i t) o) c.1 p d.0 d.1 y (λ z. absurd z)
+        (λ y. rest_case t a l n h S s rest (λ ss. found_exit_stmts t ss (n + size s) (out t s S to_next) i o) (Has (a.following i t) o) c.1 p d.0 d.1 y (λ z. absurd z)
         (λ m q w. exits_in_stmts rest g l (n + size s) m (out t s S to_next) c.2 q w i o y)) x
 
-    exits_in_arms : (arms : Arms) (g : Tok → Bool) (l : Option ℕ) (n : ℕ) (h k : HeldMap) (S : Ones) → IsScopedArms g arms → IsIn S (h t) → IsLocalArms a l n h arms k → (i : ℕ) (o : One) → found_exit_arms t arms n S i o → Has (a.behind i t) o
+    exits_in_arms : (arms : Arms) (g : Tok → Bool) (l : Option ℕ) (n : ℕ) (h k : HeldMap) (S : Ones) → IsScopedArms g arms → IsIn S (h t) → IsLocalArms a l n h arms k → (i : ℕ) (o : One) → found_exit_arms t arms n S i o → Has (a.following i t) o
     exits_in_arms no_arms g l n h k S c p d i o x = absurd x
     exits_in_arms (arm rs s rest) g l n h k S c p d i o x = ⊎_elim
         (exits_in_block s g l n (map_after rs h) (images t rs S) c.1 (images_in t rs S h p) d.1 i o)

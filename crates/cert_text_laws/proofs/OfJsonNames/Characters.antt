@@ -8,7 +8,7 @@ use Rattle.std.proofs.lemmas.Option.{same_Some, none-some}
 use Rattle.std.proofs.lemmas.Str.{scalars-chars}
 use Rattle.vlt_lexer.specs.declared.token.TokenKind.{TokenKind}
 use Rattle.vlt_lexer.specs.declared.token.TokenKind.TheVariants as kind
-use Rattle.vlt_lexer.specs.Characters.{after_line, behind, or_else, after_close}
+use Rattle.vlt_lexer.specs.Characters.{after_line, following, or_else, after_close}
 use Rattle.vlt_lexer.specs.Lexemes.{IsOf}
 use Rattle.vlt_lexer.specs.Reading.{Lexeme, IsGap, blank, line, block, Reads, nothing, gap, token}
 use Rattle.vlt_lexer.specs.Text.{IsTokensOf}
@@ -48,12 +48,12 @@ nothing_left after e = absurd (none-some after e)
 all_left : (cs : List ℕ) → AreScalars cs → Leaves (Some cs)
 all_left cs h after e = subst AreScalars (same_Some cs after e) h
 
-behind_left : (fs cs : List ℕ) → AreScalars cs → Leaves (behind fs cs)
-behind_left [] cs h = all_left cs h
-behind_left (f ∷ fs) [] h = nothing_left
-behind_left (f ∷ fs) (c ∷ cs) h = by (f == c) (behind_left fs cs (rest_of c cs h))
+after_left : (fs cs : List ℕ) → AreScalars cs → Leaves (following fs cs)
+after_left [] cs h = all_left cs h
+after_left (f ∷ fs) [] h = nothing_left
+after_left (f ∷ fs) (c ∷ cs) h = by (f == c) (after_left fs cs (rest_of c cs h))
   where
-    by : (b : Bool) → Leaves (behind fs cs) → Leaves (if b then behind fs cs else None)
+    by : (b : Bool) → Leaves (following fs cs) → Leaves (if b then following fs cs else None)
     by true more = more
     by false more = nothing_left
 
@@ -64,7 +64,7 @@ either_left (Some cs) other h k = h
 close_left : (cs : List ℕ) → AreScalars cs → Leaves (after_close cs)
 close_left [] h = nothing_left
 close_left (c ∷ cs) h =
-    either_left (behind (codes "*/") (c ∷ cs)) (after_close cs) (behind_left (codes "*/") (c ∷ cs) h) (close_left cs (rest_of c cs h))
+    either_left (following (codes "*/") (c ∷ cs)) (after_close cs) (after_left (codes "*/") (c ∷ cs) h) (close_left cs (rest_of c cs h))
 
 gap_left : (cs after : List ℕ) → IsGap cs after → AreScalars cs → AreScalars after
 gap_left cs after (blank _ c _ e _) h = rest_of c after (subst AreScalars e h)

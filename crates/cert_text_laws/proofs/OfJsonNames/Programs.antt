@@ -11,7 +11,7 @@ use Rattle.vlt_syntax_laws.proofs.Tokenwise.{Spells, each_listed, after_marked_n
 use Rattle.vlt_core.specs.Core as core
 use Rattle.vlt_core.specs.Core.{Func, Program}
 use Rattle.vlt_kinds_types.specs.Names.Refusals.{of_each, least}
-use Rattle.vlt_kinds_types.specs.Files.{File, with_text, texts_behind, state_texts, sets_in, file_of, state_names, shape_named}
+use Rattle.vlt_kinds_types.specs.Files.{File, with_text, texts_after, state_texts, sets_in, file_of, state_names, shape_named}
 use Rattle.vlt_kinds_decls.specs.Made.{core_field, core_struct, core_case, core_variant, core_types_in, core_types}
 use Rattle.vlt_kinds_heads.specs.Keys.{Keys, keys_of}
 use Rattle.vlt_kinds_heads.specs.Phase.{key_decl, core_parameter, core_head, core_heads_in}
@@ -41,7 +41,7 @@ with_named known text named h = by (list_any (bytes_eq text) known)
     by false = all_more IsUtf8 known (text ∷ []) named (h, tt)
 
 further_text : (known : List (List ℕ)) (xs : List SetState) (rest : List Token) → All IsUtf8 known → Each HasText (further_states_then xs rest) →
-    All IsUtf8 (texts_behind known xs)
+    All IsUtf8 (texts_after known xs)
 further_text known [] rest named h = named
 further_text known (x ∷ xs) rest named h =
     further_text (with_text known x.name.text) xs rest (with_named known x.name.text named h.1.0) h.1.1

@@ -11,7 +11,7 @@ use Rattle.vlt_kinds_types.specs.declared.names.found.Refusal.{Refusal}
 use Rattle.vlt_kinds_types.specs.Names.Refusals.{least_from}
 use Rattle.vlt_kinds_types.specs.Files.{type_named}
 use Rattle.vlt_kinds.specs.Kinds.{Kinds}
-use Rattle.vlt_resolve_exprs.specs.Scopes.{Scope, var_ty, more_var, with_name, with_key, with_var, scope_inside, scope_behind}
+use Rattle.vlt_resolve_exprs.specs.Scopes.{Scope, var_ty, more_var, with_name, with_key, with_var, scope_inside, scope_after}
 use Rattle.vlt_resolve_exprs.specs.Exprs.{wanted_refused}
 use Rattle.vlt_resolve_exprs.specs.Bindings.{with_vars, with_several}
 use Rattle.vlt_resolve_calls.specs.Builds.{Case}
@@ -170,8 +170,8 @@ focus_text scope ty k z key var h =
 inside_text : (scope : Scope) → HasTextScope scope → HasTextScope (scope_inside scope)
 inside_text scope h = record { keys = h.keys; vars = h.vars }
 
-behind_text : (scope last : Scope) → HasTextScope last → HasTextScope (scope_behind scope last)
-behind_text scope last h = record { keys = h.keys; vars = h.vars }
+after_text : (scope last : Scope) → HasTextScope last → HasTextScope (scope_after scope last)
+after_text scope last h = record { keys = h.keys; vars = h.vars }
 
 as_is : {X : Type 0} (x : X) (last : Scope) (y : X × Scope) → HasTextScope last → ◌≡◌ {A = Result (X × Scope) Refusal} (Ok (x, last)) (Ok y) → HasTextScope y.1
 as_is x last y g e = subst (λ z. HasTextScope z.1) (same_ok (x, last) y e) g
@@ -226,8 +226,8 @@ module _ (kinds : Kinds) where
         let ty = var_ty scope y.text in
         let u = unless_ok (least_from found (focus_refused kinds inside ty y k z)) _ r e in
         let a = then_ok (walk_stmts kinds (inside_focus around) (bound_scope inside ty k z) false ss) _ r u.1 in
-        as_is _ (scope_behind scope a.first.1) r
-        (behind_text scope a.first.1
+        as_is _ (scope_after scope a.first.1) r
+        (after_text scope a.first.1
         (stmts_text (inside_focus around) (bound_scope inside ty k z) false ss a.first (_, is.1.1.1.1.1.1.1.1.1.1)
         (focus_text inside ty k z is.1.1.1.1.1.1.0 is.1.1.1.1.1.1.1.1.0 (inside_text scope h)) a.one)) a.rest
 
@@ -235,8 +235,8 @@ module _ (kinds : Kinds) where
         HasTextScope scope → walk_block kinds around scope b ≡ Ok r → HasTextScope r.1
     block_text around scope (s.braced ss at) r is h e =
         let a = then_ok (walk_stmts kinds around (scope_inside scope) false ss) _ r e in
-        as_is _ (scope_behind scope a.first.1) r
-        (behind_text scope a.first.1 (stmts_text around (scope_inside scope) false ss a.first (_, is.1.1) (inside_text scope h) a.one)) a.rest
+        as_is _ (scope_after scope a.first.1) r
+        (after_text scope a.first.1 (stmts_text around (scope_inside scope) false ss a.first (_, is.1.1) (inside_text scope h) a.one)) a.rest
 
     if_text : (around : Around) (scope : Scope) (found : Option Refusal) (i : If) (r : List Form × Scope) → Spells HasText if_then i →
         HasTextScope scope → walk_if kinds around scope found i ≡ Ok r → HasTextScope r.1
@@ -285,8 +285,8 @@ module _ (kinds : Kinds) where
         let inside = scope_inside scope in
         let u = unless_ok (least_from None (arm_refused kinds inside c tick vs)) _ r e in
         let a = then_ok (walk_stmts kinds around (arm_scope inside c vs) false ss) _ r u.1 in
-        as_is _ (scope_behind scope a.first.1) r
-        (behind_text scope a.first.1
+        as_is _ (scope_after scope a.first.1) r
+        (after_text scope a.first.1
         (stmts_text around (arm_scope inside c vs) false ss a.first (_, is.1.1) (arm_text inside c vs named (inside_text scope h)) a.one)) a.rest
 
 -- ---- the scope that a body begins with

@@ -15,7 +15,7 @@ use Rattle.vlt_kinds_types.specs.Files.{File, shape_named}
 use Rattle.vlt_kinds_types.specs.Types.{KeyUse, key_use, argument_uses, header_uses, named_uses, ty_uses}
 use Rattle.vlt_kinds_heads.specs.declared.facts.Facts.{Facts}
 use Rattle.vlt_kinds_heads.specs.Places.{result_uses, parameter_uses, clause_in, entry_key}
-use Rattle.vlt_kinds_heads.specs.Keys.{Keys, facts_of, note, with_result, with_parameter, with_entry, with_typing, behind_result, behind_parameters, behind_entry, behind_clause, places_behind, behind_typing, behind_use, gives_type, behind_fresh, fresh_typed, parameters_typed, typed_keys, keys_behind, keys_of}
+use Rattle.vlt_kinds_heads.specs.Keys.{Keys, facts_of, note, with_result, with_parameter, with_entry, with_typing, following_result, after_parameters, following_entry, following_clause, places_after, after_typing, after_use, gives_type, after_fresh, fresh_typed, parameters_typed, typed_keys, keys_after, keys_of}
 use Rattle.cert_rows.specs.Parts.{All}
 use Rattle.cert_text_laws.proofs.OfJsonNames.Characters.{HasText}
 
@@ -114,49 +114,49 @@ entry_kept (e ∷ keys) k f named h = by (bytes_eq k e.0) (entry_kept keys k f n
 note_kept : (keys : Keys) (k : List ℕ) (change : Facts → Facts) → IsUtf8 k → All IsKeyed keys → All IsKeyed (note keys k change)
 note_kept keys k change named h = entry_kept keys k (change (facts_of keys k)) named h
 
-result_kept : (keys : Keys) (us : List KeyUse) → All IsUsed us → All IsKeyed keys → All IsKeyed (behind_result keys us)
+result_kept : (keys : Keys) (us : List KeyUse) → All IsUsed us → All IsKeyed keys → All IsKeyed (following_result keys us)
 result_kept keys [] used h = h
 result_kept keys (u ∷ us) used h =
     result_kept (note keys u.key (with_result u)) us used.1 (note_kept keys u.key (with_result u) used.0 h)
 
-parameters_kept : (keys : Keys) (us : List KeyUse) → All IsUsed us → All IsKeyed keys → All IsKeyed (behind_parameters keys us)
+parameters_kept : (keys : Keys) (us : List KeyUse) → All IsUsed us → All IsKeyed keys → All IsKeyed (after_parameters keys us)
 parameters_kept keys [] used h = h
 parameters_kept keys (u ∷ us) used h =
     parameters_kept (note keys u.key (with_parameter u)) us used.1 (note_kept keys u.key (with_parameter u) used.0 h)
 
-clause_kept : (keys : Keys) (es : List Entry) → All IsEntered es → All IsKeyed keys → All IsKeyed (behind_clause keys es)
+clause_kept : (keys : Keys) (es : List Entry) → All IsEntered es → All IsKeyed keys → All IsKeyed (following_clause keys es)
 clause_kept keys [] named h = h
 clause_kept keys (e ∷ es) named h =
-    clause_kept (behind_entry keys e) es named.1 (note_kept keys (entry_key e).text (with_entry e) named.0 h)
+    clause_kept (following_entry keys e) es named.1 (note_kept keys (entry_key e).text (with_entry e) named.0 h)
 
-typing_kept : (keys : Keys) (w : Wanted) (k : List ℕ) (at : ℕ) → IsUtf8 k → All IsKeyed keys → All IsKeyed (behind_typing keys w k at)
+typing_kept : (keys : Keys) (w : Wanted) (k : List ℕ) (at : ℕ) → IsUtf8 k → All IsKeyed keys → All IsKeyed (after_typing keys w k at)
 typing_kept keys wanted.Any k at named h = h
 typing_kept keys wanted.Unknown k at named h = h
 typing_kept keys (wanted.OfType t) k at named h = note_kept keys k (with_typing t at) named h
 
-use_kept : (keys : Keys) (u : KeyUse) → IsUsed u → All IsKeyed keys → All IsKeyed (behind_use keys u)
+use_kept : (keys : Keys) (u : KeyUse) → IsUsed u → All IsKeyed keys → All IsKeyed (after_use keys u)
 use_kept keys u used h = typing_kept keys u.wanted u.key u.at used h
 
 fresh_kept : (keys : Keys) (us : List KeyUse) → All IsUsed us → All IsKeyed keys → All IsKeyed (fresh_typed keys us)
 fresh_kept keys [] used h = h
-fresh_kept keys (u ∷ us) used h = fresh_kept (behind_fresh keys u) us used.1 (by (gives_type keys u))
+fresh_kept keys (u ∷ us) used h = fresh_kept (after_fresh keys u) us used.1 (by (gives_type keys u))
   where
-    by : (b : Bool) → All IsKeyed (if b then behind_use keys u else keys)
+    by : (b : Bool) → All IsKeyed (if b then after_use keys u else keys)
     by true = use_kept keys u used.0 h
     by false = h
 
 typed_kept : (keys : Keys) (us : List KeyUse) → All IsUsed us → All IsKeyed keys → All IsKeyed (parameters_typed keys us)
 typed_kept keys [] used h = h
-typed_kept keys (u ∷ us) used h = typed_kept (behind_use keys u) us used.1 (use_kept keys u used.0 h)
+typed_kept keys (u ∷ us) used h = typed_kept (after_use keys u) us used.1 (use_kept keys u used.0 h)
 
-behind_kept : (rs ps : List KeyUse) (es : List Entry) → All IsUsed rs → All IsUsed ps → All IsEntered es → All IsKeyed (keys_behind rs ps es)
-unfolding keys_behind typed_keys places_behind
-behind_kept rs ps es r p named =
+after_kept : (rs ps : List KeyUse) (es : List Entry) → All IsUsed rs → All IsUsed ps → All IsEntered es → All IsKeyed (keys_after rs ps es)
+unfolding keys_after typed_keys places_after
+after_kept rs ps es r p named =
     let result = result_kept [] rs r tt in
-    let parameters = parameters_kept (behind_result [] rs) ps p result in
-    let places = clause_kept (behind_parameters (behind_result [] rs) ps) es named parameters in
-    let fresh = fresh_kept (behind_clause (behind_parameters (behind_result [] rs) ps) es) rs r places in
-    typed_kept (fresh_typed (behind_clause (behind_parameters (behind_result [] rs) ps) es) rs) ps p fresh
+    let parameters = parameters_kept (following_result [] rs) ps p result in
+    let places = clause_kept (after_parameters (following_result [] rs) ps) es named parameters in
+    let fresh = fresh_kept (following_clause (after_parameters (following_result [] rs) ps) es) rs r places in
+    typed_kept (fresh_typed (following_clause (after_parameters (following_result [] rs) ps) es) rs) ps p fresh
 
 -- ---- heads
 
@@ -172,12 +172,12 @@ parameters_named (p ∷ ps) h = ((after_ty HasText p.ty _ h.0.1).0, parameters_n
 
 pub head_named : (file : File) (x : Head) (rest : List Token) → Each HasText (head_then x rest) → IsHeadNamed file x
 head_named file x rest h =
-    let behind = after_result_type HasText x.result_type _ h in
-    let parameters = each_listed HasText parameter_then (after_parameter HasText) _ x.parameters _ behind.1.1 in
-    let clause = after_listed HasText parameter_then (after_parameter HasText) _ x.parameters _ behind.1.1 in
+    let following = after_result_type HasText x.result_type _ h in
+    let parameters = each_listed HasText parameter_then (after_parameter HasText) _ x.parameters _ following.1.1 in
+    let clause = after_listed HasText parameter_then (after_parameter HasText) _ x.parameters _ following.1.1 in
     record {
-      name = behind.0;
+      name = following.0;
       parameters = parameters_named x.parameters parameters;
-      keys = behind_kept (result_uses file x.result_type) (parameter_uses file x.parameters) (clause_in x.clause)
+      keys = after_kept (result_uses file x.result_type) (parameter_uses file x.parameters) (clause_in x.clause)
           (result_used file x.result_type _ h) (parameters_used file x.parameters parameters) (clause_named x.clause rest clause);
     }

@@ -28,7 +28,7 @@ use Rattle.vlt_acts.specs.Values.Parts.{HaveValue}
 use Rattle.vlt_acts.specs.Values.Filled.{IsFilled, IsSingleSlot}
 use Rattle.vlt_acts.specs.Values.Shown.{ShowsObject, ShowObjects, ShowsFrame, var_at, Seen, IsKept, IsCopied, IsWritten}
 use Rattle.vlt_acts.proofs.OfValues.Touching.{OrFault, Packed, object_of_fault, object_of_is}
-use Rattle.vlt_acts.proofs.OfValues.Fronts.{IsSlotAt, IsNoObject, packed_object, behind, referred}
+use Rattle.vlt_acts.proofs.OfValues.Fronts.{IsSlotAt, IsNoObject, packed_object, following, referred}
 use Rattle.vlt_acts.proofs.OfValues.Fronts as fronts
 use Rattle.vlt_acts.proofs.OfValues.Pushing.{emptied_shown, owner_shown}
 use Rattle.vlt_acts.specs.Acts.Acts.{setup, HasDone, Does, IsRight}
@@ -49,7 +49,7 @@ pub met : (h : Heap) (v : Values) (c : Seen h v) (x : ℕ) (a : Slot) → IsSlot
 met h v c x a is m p o n e =
     let ref = referred h v c x a is m p.touched in
     let s = fronts.same_object (sym e ∙ ref.is) in
-    let b = behind c.items v.width m.number c.objects m.object c.shown p.touched.at p.touched.live in
+    let b = following c.items v.width m.number c.objects m.object c.shown p.touched.at p.touched.live in
     record { item = b.item; at = b.at; place = ref.made.place b.item b.at ∙ ap (λ q. q.0) (sym s.0); shown = b.shown; object = p.touched.at }
 
 -- it is live, it has no parent, and it isn't out

@@ -25,7 +25,7 @@ use Rattle.vlt_acts.specs.Values.Parts.{IsObject}
 use Rattle.vlt_acts.specs.Values.Filled.{IsFilled, IsSingleSlot}
 use Rattle.vlt_acts.specs.Values.Shown.{ShowsObject, ShowObjects, ShowsFrame, var_at, Seen, IsKept, IsKeySet}
 use Rattle.vlt_acts.proofs.OfValues.Touching.{Touched, IsHeld, IsRoot, guarded_is, held_is, so_is, object_is}
-use Rattle.vlt_acts.proofs.OfValues.Fronts.{IsSlotAt, IsNoObject, behind, referred}
+use Rattle.vlt_acts.proofs.OfValues.Fronts.{IsSlotAt, IsNoObject, following, referred}
 use Rattle.vlt_acts.proofs.OfValues.Fronts as fronts
 use Rattle.vlt_acts.proofs.OfValues.Pushing.{owner_shown}
 use Rattle.vlt_acts.specs.Acts.Focus.{FindsFocus, CanFocus, HasFocused, focused_frame, focused_world, FindsEnd, CanEnd, HasEnded}
@@ -85,7 +85,7 @@ met_focus h v c w y z same f s is o k e =
     let owner = owner_is f.guard y c.frame w.objects f.adopter f.object f.is_adopter f.is_object in
     let ref = referred h v c y s is f.object t in
     let q = fronts.same_object (sym e ∙ ref.is) in
-    let b = behind c.items v.width f.object.number c.objects f.object.object c.shown t.at t.live in
+    let b = following c.items v.width f.object.number c.objects f.object.object c.shown t.at t.live in
     let made : IsMadeAt c.items o.0 f.object.number = subst (λ z. IsMadeAt c.items z.0 f.object.number) (sym q.0) ref.made in
     record {
       met = record {
@@ -230,8 +230,8 @@ ends_met h v c w o p same f =
     let s = so_is (is_lent_under c.frame.depth f.guard b.0.object.owner) not_held b.0 f.adopter_named b.2 in
     let at_a = (object_is w.objects f.adopter_number b.0 b.1).1 in
     let root = lent_root c.frame.depth f.guard b.0.object.owner s.0 in
-    let x = behind c.items v.width f.number c.objects f.object_named.object c.shown (ap (λ os. slice_get os f.number) (sym same) ∙ at_n) held.root.live in
-    let y = behind c.items v.width f.adopter_number c.objects b.0.object c.shown (ap (λ os. slice_get os f.adopter_number) (sym same) ∙ at_a) root.live in
+    let x = following c.items v.width f.number c.objects f.object_named.object c.shown (ap (λ os. slice_get os f.number) (sym same) ∙ at_n) held.root.live in
+    let y = following c.items v.width f.adopter_number c.objects b.0.object c.shown (ap (λ os. slice_get os f.adopter_number) (sym same) ∙ at_a) root.live in
     record {
       item = x.item;
       thing = f.object_named.object;

@@ -103,7 +103,7 @@ returned_is items values p f o e frame objects m h given is = by (is_new e) refl
         let part = h.keys e.key a.0.number k.key in
         subst (λ z. IsFoundAt items values objects e z.number) s.1 (record {
           kept = subst (λ b. IsKeptAt items values.slots.items values.base (if b then value_at values else key_at values 0 + e.key) a.0.number) (sym new)
-              (record { behind = omega arith; part = subst (λ i. HasPartAt items values.slots.items i (reference a.0.number)) (omega arith) part });
+              (record { following = omega arith; part = subst (λ i. HasPartAt items values.slots.items i (reference a.0.number)) (omega arith) part });
           root = record { object = a.0.object; at = k.at; live = k.root.live; root = k.root.above; here = k.root.here };
         })
 
@@ -193,7 +193,7 @@ some_given h old new c w s f o r func program base width low long pushed =
 
     given : (a v : Value) (frame : Frame) (u : World) → HasPushed c.items old new r a frame u → ◌≡◌ {A = Option Value} (Some a) (Some v) → IsGiven c.items new v
     given a v frame u k e = record {
-      behind = omega (arith, long, width, base, low);
+      following = omega (arith, long, width, base, low);
       value = subst (λ q. HaveValue c.items new.slots.items (value_at new) q v) (sym width) (subst (λ i. HaveValue c.items new.slots.items i old.width v) (sym at) (subst (HaveValue c.items new.slots.items (length old.slots.items) old.width) (same_Some a v e) k.value));
     }
 
@@ -204,7 +204,7 @@ some_given h old new c w s f o r func program base width low long pushed =
         let g = var_got s.program f x c.frame w a frame u (subst (λ q. operand_got s.program f q c.frame w ≡ got a frame u) same_o is) in
         let v : a ≡ one (reference n) = same_Some a (one (reference n)) (sym g.0 ∙ ap (λ z. z.vars x) g.1 ∙ ref) in
         let part = (subst (HaveValue c.items new.slots.items (length old.slots.items) old.width) v k.value).parts.0 in
-        record { behind = omega (arith, at, base, low); part = subst (λ i. HasPartAt c.items new.slots.items i (reference n)) (sym at) part }
+        record { following = omega (arith, at, base, low); part = subst (λ i. HasPartAt c.items new.slots.items i (reference n)) (sym at) part }
 
     by : (x : Got Value) → operand_got s.program f o c.frame w ≡ x → IsPushed c.items old new r x → IsLeft c.items new f r (then_step x (λ a frame w. left_function s f (Some o) (Some a) frame w))
     by (got a frame u) e k = subst (λ q. IsLeft c.items new f q (left_function s f (Some o) (Some a) frame u)) (sym k.is)
@@ -337,7 +337,7 @@ module _ (items : Items) (w : Waiting) (g : Func) (old mid new : Values) (a : Op
           own
         where
           high : old.base ≤ value_at old
-          high = let h = given.behind in omega (arith, h)
+          high = let h = given.following in omega (arith, h)
 
           place : value_at mid ≡ value_at old
           place = ap (λ n. n - mid.width) did.named.long ∙ ap (λ n. length old.slots.items - n) width
@@ -348,7 +348,7 @@ module _ (items : Items) (w : Waiting) (g : Func) (old mid new : Values) (a : Op
           moved : HaveValue items last.slots.items (var_at mid x.0) old.width b
           moved = value_moved items mid.slots.items last.slots.items (value_at mid) (var_at mid x.0) old.width b (λ j c l from. copied.filled apart j c (subst (λ n. j < n) (sym width) l) from)
               (subst (λ i. HaveValue items mid.slots.items i old.width b) (sym place)
-              (value_same items old.slots.items mid.slots.items (value_at old) old.width b (λ j from l. did.named.behind j (omega (arith, from, high))) given.value))
+              (value_same items old.slots.items mid.slots.items (value_at old) old.width b (λ j from l. did.named.following j (omega (arith, from, high))) given.value))
 
       by : (y : Option Value) → ((b : Value) → y ≡ Some b → IsGiven items old b) → IsBack items new (func_of w.func.now) (deliver (func_of w.func.now) (Some x.0) y (named_frame w g kept frame) (named_world w g kept frame v))
       by None given = refl

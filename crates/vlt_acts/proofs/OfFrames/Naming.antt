@@ -21,7 +21,7 @@ use Rattle.vlt_acts.specs.Frames.Naming.{KeysBelow, IsNamed, Names}
 -- ---- nothing changes
 
 pub same_named : (top : ℕ) (values : Values) → IsNamed top values values
-same_named top values = record { behind = λ j l. refl; below = λ j l. refl; long = refl; room = refl; base = refl; vars = refl; width = refl }
+same_named top values = record { following = λ j l. refl; below = λ j l. refl; long = refl; room = refl; base = refl; vars = refl; width = refl }
 
 -- an entry whose key the caller has no key for
 pub none_names : (e : Entry) (keys : List ℕ) (top from value : ℕ) (values : Values) → slice_get keys e.key ≡ None → Names (e ∷ []) keys top from value values values
@@ -32,7 +32,7 @@ none_names e keys top from value values is items frame (n ∷ ns) kept h = subst
 
 pub set_named : (k top : ℕ) (a : Slot) (old new : Values) → key_at old k < top → IsKeySet k a old new → IsNamed top old new
 set_named k top a old new l set = record {
-  behind = λ j m. set.others j (λ e. absurd (omega (arith, e, m, l)));
+  following = λ j m. set.others j (λ e. absurd (omega (arith, e, m, l)));
   below = λ j m. set.others j (λ e. absurd (omega (arith, e, m)));
   long = set.long;
   room = set.room;
@@ -55,7 +55,7 @@ kept_still items old mid top from value [] [] named h = tt
 kept_still items old mid top from value [] (n ∷ ns) named h = h
 kept_still items old mid top from value (e ∷ es) [] named h = h
 kept_still items old mid top from value (e ∷ es) (n ∷ ns) named h = (
-  record { behind = h.0.behind; part = record { slot = h.0.part.slot; at = named.behind (kept_at from value e) h.0.behind ∙ h.0.part.at; part = h.0.part.part } },
+  record { following = h.0.following; part = record { slot = h.0.part.slot; at = named.following (kept_at from value e) h.0.following ∙ h.0.part.at; part = h.0.part.part } },
   kept_still items old mid top from value es ns named h.1,
 )
 
@@ -75,7 +75,7 @@ no_names keys top from value values items frame (n ∷ ns) kept h = absurd kept
 
 pub named_twice : (top : ℕ) (old mid new : Values) → IsNamed top old mid → IsNamed top mid new → IsNamed top old new
 named_twice top old mid new a b = record {
-  behind = λ j l. b.behind j l ∙ a.behind j l;
+  following = λ j l. b.following j l ∙ a.following j l;
   below = λ j l. b.below j (subst (λ n. j < n) (sym a.base) l) ∙ a.below j l;
   long = b.long ∙ a.long;
   room = b.room ∙ a.room;

@@ -86,7 +86,7 @@ all_wait_kept xs ys old new end (w ∷ ws) (k ∷ ks) keep width same h = (
 
 -- ---- keys of the function
 
--- where nothing stands behind a frame, it names keys of its function alone
+-- where nothing stands after a frame, it names keys of its function alone
 pub running_names : (items : Items) (values : Values) (f : Func) (frame : Frame) → IsRunning values f 0 → ShowsFrame items values frame → NamesOwn f frame
 running_names items values f frame running h k n e =
     let q = h.keys k n e in

@@ -102,7 +102,7 @@ have_first : (items : Items) (slots : List Slot) (k : ℕ) (ps qs : List Part) �
 have_first items slots k [] qs have = tt
 have_first items slots k (p ∷ ps) qs have = (have.0, have_first items slots (suc k) ps qs have.1)
 
--- the payload behind the case
+-- the payload after the case
 payload_at : (items : Items) (slots : List Slot) (k w c : ℕ) (parts : List Part) (keys : List ℕ) → HaveValue items slots k w (of_case c parts keys) → HaveParts items slots (suc k) parts
 payload_at items slots k w c parts keys have = have_first items slots (suc k) parts _ (have_first items slots (suc k) (parts ++ map owned keys) _ have.parts.1)
 

@@ -72,7 +72,7 @@ fronts_parts items slots news from w to (p ∷ ps) have same =
           subst (λ k. slice_get news k ≡ Some b) f (same (suc j) b (omega (arith, l)) (ap (slice_get slots) e ∙ at))),
     )
 
-module _ (old a b new : Values) (ks : List KeyIn) (c from count to first second : ℕ) (is_first : first ≡ suc to) (is_second : second ≡ suc to + count) (fits : 1 + count + length ks ≤ old.width) (before : to + old.width ≤ old.base + old.vars * old.width) (behind : old.base + old.vars * old.width ≤ from)
+module _ (old a b new : Values) (ks : List KeyIn) (c from count to first second : ℕ) (is_first : first ≡ suc to) (is_second : second ≡ suc to + count) (fits : 1 + count + length ks ≤ old.width) (before : to + old.width ≤ old.base + old.vars * old.width) (following : old.base + old.vars * old.width ≤ from)
     (kept : IsKept to old a) (filled : IsFilled (IsSingleSlot (Number (pos c))) a.slots.items to old.width) (row : IsRowSet first count a b) (fronts : IsFilled (IsFrontOf a from) b.slots.items first count) (keys : IsRowSet second (length ks) b new) (packs : PacksKeys ks second b new) where
   pub case_kept : IsKept to old new
   case_kept = record {
@@ -127,7 +127,7 @@ module _ (old a b new : Values) (ks : List KeyIn) (c from count to first second 
           let m : j < count = subst (λ k. j < k) counted l in
           let e : suc to + j ≡ first + j = omega (arith, is_first) in
           keys.outside (suc to + j) (inl (omega (arith, m, is_second))) ∙ ap (slice_get b.slots.items) e
-          ∙ fronts j s m (kept.outside (from + j * a.width) (inr (omega (arith, before, behind))) ∙ ap (λ w. slice_get old.slots.items (from + j * w)) kept.width ∙ at))
+          ∙ fronts j s m (kept.outside (from + j * a.width) (inr (omega (arith, before, following))) ∙ ap (λ w. slice_get old.slots.items (from + j * w)) kept.width ∙ at))
 
       key_slots : ShowsKeys items b frame
       key_slots j m e =

@@ -90,11 +90,11 @@ none_filled from values items f frame w (p ∷ ps) shown have = refl
 pub one_filled : (old mid new : Values) (v from next to : ℕ) (vs : List ℕ) (a : Slot) → next ≡ suc from → v < old.vars → 1 ≤ old.width → old.base + old.vars * old.width ≤ from → slice_get old.slots.items from ≡ Some a → to ≡ var_at old v → IsKept to old mid
     → IsFilled (IsSingleSlot a) mid.slots.items to old.width → FillsParts next vs mid new → FillsParts from (v ∷ vs) old new
 unfolding got_if
-one_filled old mid new v from next to vs a is within wide behind at is_to kept filled rest items f frame w [] shown have = refl
-one_filled old mid new v from next to vs a is within wide behind at is_to kept filled rest items f frame w (p ∷ ps) shown have = by (is_fillable f v frame)
+one_filled old mid new v from next to vs a is within wide following at is_to kept filled rest items f frame w [] shown have = refl
+one_filled old mid new v from next to vs a is within wide following at is_to kept filled rest items f frame w (p ∷ ps) shown have = by (is_fillable f v frame)
   where
     fits : to + old.width ≤ from
-    fits = let r = row_fits v old.vars old.width old.width within (omega arith) in omega (arith, r, behind, is_to)
+    fits = let r = row_fits v old.vars old.width old.width within (omega arith) in omega (arith, r, following, is_to)
 
     more : IsFilledWith items new (with_var v (Some (one p)) frame) w (filled_got f vs (map one ps) (with_var v (Some (one p)) frame) w)
     more =
@@ -115,7 +115,7 @@ one_filled old mid new v from next to vs a is within wide behind at is_to kept f
 pub frame_joined : (old mid new : Values) (v to : ℕ) → v < old.vars → to ≡ var_at old v → IsKept to old mid → IsFrameSet mid new → IsFrameSet old new
 frame_joined old mid new v to within is_to kept set = record {
   below = λ k l. set.below k (rw kept.base l) ∙ kept.outside k (inl (omega (arith, l, is_to)));
-  behind = λ k l. set.behind k (rw (kept.base, kept.vars, kept.width) l) ∙ kept.outside k (inr (let r = row_fits v old.vars old.width old.width within (omega arith) in omega (arith, l, r, is_to)));
+  following = λ k l. set.following k (rw (kept.base, kept.vars, kept.width) l) ∙ kept.outside k (inr (let r = row_fits v old.vars old.width old.width within (omega arith) in omega (arith, l, r, is_to)));
   long = set.long ∙ kept.long;
   room = set.room ∙ kept.room;
   base = set.base ∙ kept.base;

@@ -18,7 +18,7 @@ use Rattle.vlt_meaning.specs.Objects.{object_at, owned_at, with_owner, with_chan
 use Rattle.vlt_meaning_laws.proofs.Keeping.{bound}
 use Rattle.vlt_acts.specs.Values.Shown.{ShowsObject, ShowObjects}
 use Rattle.vlt_acts.proofs.OfValues.Touching.{so_is, object_is, equal_is}
-use Rattle.vlt_acts.proofs.OfValues.Fronts.{behind}
+use Rattle.vlt_acts.proofs.OfValues.Fronts.{following}
 use Rattle.vlt_acts.proofs.OfActs.Showing.{one_shown, release_shown}
 use Rattle.vlt_acts.specs.Objects.Owned.{owned_in, Sees, IsHeldAt, put_in, taken_out, objects_after_drop, CanHang, CanFree, CanDrop, HangsAll, FreesAll, DropsAll}
 use Rattle.vlt_acts.proofs.OfObjects.Chains.{same_objects, Owns, owns}
@@ -69,7 +69,7 @@ pub record Meets (h : Heap) (items : Items) (width : ℕ) (objects : List Thing)
 pub meets : (h : Heap) (a : List Slot) (s : Sees h a) (o : Obj) (n : ℕ) (owner : Owner) (from : Owner → Bool) → ((q : Owner) → from q ≡ true → q ≡ owner) → is_gone owner ≡ false → IsMadeAt s.items o.0 n → FoundAt from s.objects n → Meets h s.items s.width s.objects o n owner
 meets h a s o n owner from says live made f =
     let is = says f.object.owner f.test in
-    let b = behind s.items s.width n s.objects f.object s.shown f.at (ap is_gone is ∙ live) in
+    let b = following s.items s.width n s.objects f.object s.shown f.at (ap is_gone is ∙ live) in
     record { thing = f.object; object = f.at; owner_is = is; item = b.item; at = b.at; place = made.place b.item b.at; shown = b.shown }
 
 module _ (h : Heap) (a : List Slot) (s : Sees h a) (o : Obj) (n : ℕ) (owner : Owner) (m : Meets h s.items s.width s.objects o n owner) where
@@ -89,7 +89,7 @@ module _ (h : Heap) (a : List Slot) (s : Sees h a) (o : Obj) (n : ℕ) (owner : 
 
 pub holder_meets : (h : Heap) (a : List Slot) (s : Sees h a) (o : Obj) (n : ℕ) (k : IsHeldAt s.items s.objects n o.0) → Meets h s.items s.width s.objects o n (held k.depth k.key)
 holder_meets h a s o n k =
-    let b = behind s.items s.width n s.objects k.object s.shown k.at (ap is_gone k.owner) in
+    let b = following s.items s.width n s.objects k.object s.shown k.at (ap is_gone k.owner) in
     record { thing = k.object; object = k.at; owner_is = k.owner; item = b.item; at = b.at; place = k.made.place b.item b.at; shown = b.shown }
 
 -- different owners are those of different objects

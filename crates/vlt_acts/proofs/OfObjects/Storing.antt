@@ -17,7 +17,7 @@ use Rattle.vlt_acts.specs.declared.values.values.Values.{Values}
 use Rattle.vlt_acts.specs.Values.Parts.{padded_parts, HaveParts, HaveValue}
 use Rattle.vlt_acts.specs.Values.Shown.{ShowsObject, var_at}
 use Rattle.vlt_acts.proofs.OfValues.Padding.{length_padded}
-use Rattle.vlt_acts.proofs.OfValues.Fronts.{IsSlotAt, IsNoObject, behind, referred}
+use Rattle.vlt_acts.proofs.OfValues.Fronts.{IsSlotAt, IsNoObject, following, referred}
 use Rattle.vlt_acts.proofs.OfValues.Fronts as fronts
 use Rattle.vlt_acts.proofs.OfValues.Writing.{value_moved}
 use Rattle.vlt_acts.proofs.OfActs.Keeping.{value_same}
@@ -141,7 +141,7 @@ pub cell_set : (old new : Heap) (values : Values) (x i from : ℕ) (a : Slot) (o
 cell_set old new values x i from a o n k row wide within front is is_row is_k stores c m q b r has =
     let ref = referred old values c x a front (record { number = m; object = q }) (record { var = r.var; at = r.at; live = r.live }) in
     let s = fronts.same_object (sym is ∙ ref.is) in
-    let t = behind c.items values.width m c.objects q c.shown r.at r.live in
+    let t = following c.items values.width m c.objects q c.shown r.at r.live in
     let w = values.width in
     let long : length row ≡ w = ap length is_row ∙ length_row values.slots.items from (1 * w) (omega (arith, within)) ∙ omega arith in
     let fits : i * w + w ≤ length t.item.slots = by t.item t.shown (slice_get q.cells i) refl in

@@ -17,7 +17,7 @@ use Rattle.vlt_heap.proofs.Listed.{KeepMade}
 use Rattle.vlt_meaning.specs.World.{Value, objects_in, Owner, held, lent, loose, inside, adopted_by, out, gone, is_held_under, is_inside, is_loose, Object as Thing, World, Frame, missing, no_value, not_owned}
 use Rattle.vlt_meaning.specs.Found.{◌>>=◌, or_fault, Named}
 use Rattle.vlt_meaning.specs.Objects.{object_at, owned_at, in_states, with_cell}
-use Rattle.vlt_meaning.specs.Values.{held_object, tracked_object, object_behind, touchable, object_of, reference_in}
+use Rattle.vlt_meaning.specs.Values.{held_object, tracked_object, object_after, touchable, object_of, reference_in}
 use Rattle.vlt_meaning.specs.Step.{Step, goes, with_objects, with_changed, with_moved, with_var}
 use Rattle.vlt_meaning.specs.Run.{swap_step, does_simple}
 use Rattle.vlt_meaning_laws.proofs.Keeping.{bound, err-ok}
@@ -79,7 +79,7 @@ object_holds f states x frame objects m e =
 touch_same : (p : Program) (f : Func) (x i : ℕ) (frame : Frame) (objects : List Thing) (m : Named) → object_of f (λ q. permitted_in p q.type i) x frame objects ≡ Ok m → touchable p f x i frame objects ≡ Ok m
 touch_same p f x i frame objects m e = by (reference_of f x) e
   where
-    by : (o : Option Reference) → (or_fault missing o >>= (λ r. tracked_object r x frame objects >>= in_states (permitted_in p r.type i))) ≡ Ok m → object_behind o (guarded_of f x) x (λ r. permitted_in p r.type i) frame objects ≡ Ok m
+    by : (o : Option Reference) → (or_fault missing o >>= (λ r. tracked_object r x frame objects >>= in_states (permitted_in p r.type i))) ≡ Ok m → object_after o (guarded_of f x) x (λ r. permitted_in p r.type i) frame objects ≡ Ok m
     by None h = absurd (err-ok h)
     by (Some r) h = h
 

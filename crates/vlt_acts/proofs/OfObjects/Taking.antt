@@ -18,7 +18,7 @@ use Rattle.vlt_acts.specs.declared.values.values.Values.{Values}
 use Rattle.vlt_acts.specs.Values.Parts.{padded_parts, HaveValue}
 use Rattle.vlt_acts.specs.Values.Filled.{IsFilled, IsCellSlot}
 use Rattle.vlt_acts.specs.Values.Shown.{ShowObjects, var_at, IsKept}
-use Rattle.vlt_acts.proofs.OfValues.Fronts.{behind}
+use Rattle.vlt_acts.proofs.OfValues.Fronts.{following}
 use Rattle.vlt_acts.proofs.OfValues.Writing.{value_moved}
 use Rattle.vlt_acts.proofs.OfActs.Keeping.{frame_kept, value_kept, assigned}
 use Rattle.vlt_acts.specs.Objects.Owned.{AreParts, Sees, taken_out, CanFree, FreesAll}
@@ -33,7 +33,7 @@ module _ (old : Heap) (values mid : Values) (o : Obj) (n i v to : ℕ) (is_to : 
   -- the field's value stands in the variable's slots
   cell_here : (h : Holder old values n o.0) (a : Value) → slice_get h.held.object.cells i ≡ Some a → HaveValue h.items mid.slots.items to values.width a
   cell_here h a at =
-      let b = behind h.items values.width n h.objects h.held.object h.shown h.held.at (ap is_gone h.held.owner) in
+      let b = following h.items values.width n h.objects h.held.object h.shown h.held.at (ap is_gone h.held.owner) in
       value_moved h.items b.item.slots mid.slots.items (i * values.width) to values.width a (λ j q l at_q. filled j q l (record { items = h.items; holds = h.holds; made = h.held.made; item = b.item; at = b.at; slot = at_q })) (b.shown.cells i a at)
 
   abbrev cell_seen : (h : Holder old values n o.0) (a : Value) → slice_get h.held.object.cells i ≡ Some a → (row : List Slot) → row ≡ take (1 * mid.width) (drop to mid.slots.items) → Sees old row
@@ -72,7 +72,7 @@ module _ (old : Heap) (values mid : Values) (o : Obj) (n i v to : ℕ) (is_to : 
 
 -- ---- one field after another
 
--- the cell of a field, and those behind it
+-- the cell of a field, and those after it
 pub data CellsFrom (i : ℕ) (cells : List Value) : Type 0 where
   none_left : drop i cells ≡ [] → drop (suc i) cells ≡ [] → CellsFrom i cells
   one_more : (a : Value) → slice_get cells i ≡ Some a → drop i cells ≡ a ∷ drop (suc i) cells → CellsFrom i cells

@@ -40,17 +40,17 @@ var_front h v c x a is = by (c.frame.vars x) refl
 -- ---- fields
 
 -- the object that a variable refers to, as the heap has it
-pub record Behind (items : Items) (width n : ℕ) (o : Thing) : Type 0 where
+pub record Following (items : Items) (width n : ℕ) (o : Thing) : Type 0 where
   pub item : Item
   pub at : IsAt items n item
   pub shown : ShowsObject items width item o
 
-pub behind : (items : Items) (width n : ℕ) (objects : List Thing) (o : Thing) → ShowObjects items width objects → slice_get objects n ≡ Some o → is_gone o.owner ≡ false → Behind items width n o
-behind items width n objects o shown at live =
+pub following : (items : Items) (width n : ℕ) (objects : List Thing) (o : Thing) → ShowObjects items width objects → slice_get objects n ≡ Some o → is_gone o.owner ≡ false → Following items width n o
+following items width n objects o shown at live =
     let y = item_at items n (let l = slice_get_within objects n o at in omega (arith, l, shown.long)) in
     by y.item y.at (shown.each n y.item o y.at at)
   where
-    by : (x : Option Item) → slice_get items n ≡ Some x → ShowsIt items width x o → Behind items width n o
+    by : (x : Option Item) → slice_get items n ≡ Some x → ShowsIt items width x o → Following items width n o
     by None e gone = absurd (false≢true (sym live ∙ gone))
     by (Some x) e is = record { item = x; at = e; shown = is }
 
@@ -98,7 +98,7 @@ module _ (h : Heap) (v : Values) (c : Seen h v) (x : ℕ) (a : Slot) (is : IsSlo
   field_found i o n r e finds = field_front h v c x i r (λ m w t at.
       let ref = referred m t in
       let s = same_object (sym e ∙ ref.is) in
-      let b = behind c.items v.width m.number c.objects m.object c.shown t.at t.live in
+      let b = following c.items v.width m.number c.objects m.object c.shown t.at t.live in
       let f = finds c.items c.holds (subst (λ q. IsMadeAt c.items q.0 n) (sym s.0) (subst (IsMadeAt c.items ref.object.0) (sym s.1) ref.made)) in
       let item : f.item ≡ b.item = same_Some _ _ (same_Some _ _ (sym f.at ∙ ap (slice_get c.items) s.1 ∙ b.at)) in
       has_part c.items b.item.slots (i * v.width) (head_of w) r (λ q at_q. same_Some r q (sym f.slot ∙ ap (λ z. slice_get z.slots (i * v.width)) item ∙ at_q))
@@ -108,7 +108,7 @@ module _ (h : Heap) (v : Values) (c : Seen h v) (x : ℕ) (a : Slot) (is : IsSlo
   field_none i o n r e finds = field_front h v c x i r (λ m w t at.
       let ref = referred m t in
       let s = same_object (sym e ∙ ref.is) in
-      let b = behind c.items v.width m.number c.objects m.object c.shown t.at t.live in
+      let b = following c.items v.width m.number c.objects m.object c.shown t.at t.live in
       let f = finds c.items c.holds (subst (λ q. IsMadeAt c.items q.0 n) (sym s.0) (subst (IsMadeAt c.items ref.object.0) (sym s.1) ref.made)) in
       let part = front_part c.items b.item.slots (i * v.width) v.width w (b.shown.cells i w at).parts in
       absurd (none-some part.slot (sym (f b.item (ap (slice_get c.items) s.1 ∙ b.at)) ∙ part.at)))

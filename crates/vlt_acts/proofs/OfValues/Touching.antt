@@ -7,7 +7,7 @@ use Rattle.vlt_core.specs.Lookups.{Reference, reference_of, guarded_of, permitte
 use Rattle.vlt_meaning.specs.World.{Value, one, number, reference, owned, of_case, Owner, held, lent, loose, inside, adopted_by, out, gone, Object, is_gone, is_out, above, is_held_under, is_adopted_by, Frame, Reason, is_fault, missing, no_value, not_held, other_object, not_guarded, wrong_state}
 use Rattle.vlt_meaning.specs.Found.{Found, ◌>>=◌, or_fault, Named, if_so}
 use Rattle.vlt_meaning.specs.Objects.{named_in, object_at}
-use Rattle.vlt_meaning.specs.Values.{held_object, reference_in, tracked_object, guarded_object, object_behind, touchable, object_of}
+use Rattle.vlt_meaning.specs.Values.{held_object, reference_in, tracked_object, guarded_object, object_after, touchable, object_of}
 use Rattle.vlt_meaning_laws.proofs.Keeping.{bound, err-ok}
 
 -- ---- what is found, or a fault
@@ -58,15 +58,15 @@ guarded_fault r x frame objects =
     then_fault (reference_in (frame.vars x)) _ (reference_fault (frame.vars x)) (λ n.
     then_fault (object_at objects n) _ (object_fault objects n) (λ m. so_fault (is_adopted_by a.number m.object.owner) not_guarded m)))
 
-behind_fault : (r g : Option Reference) (x : ℕ) (states : Reference → States) (frame : Frame) (objects : List Object) → OrFault (object_behind r g x states frame objects)
-behind_fault (Some r) g x states frame objects =
+after_fault : (r g : Option Reference) (x : ℕ) (states : Reference → States) (frame : Frame) (objects : List Object) → OrFault (object_after r g x states frame objects)
+after_fault (Some r) g x states frame objects =
     then_fault (tracked_object r x frame objects) _ (tracked_fault r x frame objects) (λ m. so_fault (states r m.object.state) wrong_state m)
-behind_fault None (Some g) x states frame objects =
+after_fault None (Some g) x states frame objects =
     then_fault (guarded_object g x frame objects) _ (guarded_fault g x frame objects) (λ m. so_fault (states g m.object.state) wrong_state m)
-behind_fault None None x states frame objects = refl
+after_fault None None x states frame objects = refl
 
 pub touch_fault : (p : Program) (f : Func) (x i : ℕ) (frame : Frame) (objects : List Object) → OrFault (touchable p f x i frame objects)
-touch_fault p f x i frame objects = behind_fault (reference_of f x) (guarded_of f x) x (λ r. permitted_in p r.type i) frame objects
+touch_fault p f x i frame objects = after_fault (reference_of f x) (guarded_of f x) x (λ r. permitted_in p r.type i) frame objects
 
 -- ---- the object
 
@@ -194,19 +194,19 @@ guarded_is r x frame objects m e =
       live = adopted_live a.0.number d.0.object.owner s.0;
     })
 
-behind_is : (r g : Option Reference) (x : ℕ) (states : Reference → States) (frame : Frame) (objects : List Object) (m : Named) → object_behind r g x states frame objects ≡ Ok m → Touched x frame objects m
-behind_is (Some r) g x states frame objects m e =
+after_is : (r g : Option Reference) (x : ℕ) (states : Reference → States) (frame : Frame) (objects : List Object) (m : Named) → object_after r g x states frame objects ≡ Ok m → Touched x frame objects m
+after_is (Some r) g x states frame objects m e =
     let a = bound (tracked_object r x frame objects) _ m e in
     let s = so_is (states r a.0.object.state) wrong_state a.0 m a.2 in
     subst (Touched x frame objects) s.1 (tracked_is r x frame objects a.0 a.1)
-behind_is None (Some g) x states frame objects m e =
+after_is None (Some g) x states frame objects m e =
     let a = bound (guarded_object g x frame objects) _ m e in
     let s = so_is (states g a.0.object.state) wrong_state a.0 m a.2 in
     subst (Touched x frame objects) s.1 (guarded_is g x frame objects a.0 a.1)
-behind_is None None x states frame objects m e = absurd (err-ok e)
+after_is None None x states frame objects m e = absurd (err-ok e)
 
 pub touched : (p : Program) (f : Func) (x i : ℕ) (frame : Frame) (objects : List Object) (m : Named) → touchable p f x i frame objects ≡ Ok m → Touched x frame objects m
-touched p f x i frame objects m e = behind_is (reference_of f x) (guarded_of f x) x (λ r. permitted_in p r.type i) frame objects m e
+touched p f x i frame objects m e = after_is (reference_of f x) (guarded_of f x) x (λ r. permitted_in p r.type i) frame objects m e
 
 -- ---- the object of a tracked variable, in states that are wanted
 

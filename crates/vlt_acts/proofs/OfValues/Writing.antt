@@ -23,7 +23,7 @@ use Rattle.vlt_acts.specs.Values.Filled.{IsFilled, IsCellSlot, IsSingleSlot}
 use Rattle.vlt_acts.specs.Values.Asked.{of_both, given_by, IsAsked}
 use Rattle.vlt_acts.specs.Values.Shown.{var_at, AreApart, IsPlace, IsVarSlot, Seen, IsNumber, IsNumeric, IsCopied, IsWritten}
 use Rattle.vlt_acts.proofs.OfValues.Touching.{OrFault, Touched, touched, touch_fault}
-use Rattle.vlt_acts.proofs.OfValues.Fronts.{IsSlotAt, behind, same_object, IsNoObject, referred}
+use Rattle.vlt_acts.proofs.OfValues.Fronts.{IsSlotAt, following, same_object, IsNoObject, referred}
 use Rattle.vlt_acts.proofs.OfValues.Padding.{length_padded, single_value}
 use Rattle.vlt_acts.proofs.OfValues.Numbers.{Faulty, number_is, trap_is, ok-err}
 
@@ -85,7 +85,7 @@ pub cell_copied : (h : Heap) (old new : Values) (c : Seen h old) (x i to : ℕ) 
 cell_copied h old new c x i to a o n is e width filled = field_copied h old new c x i to width (λ m w t at.
     let ref = referred h old c x a is m t in
     let s = same_object (sym e ∙ ref.is) in
-    let b = behind c.items old.width m.number c.objects m.object c.shown t.at t.live in
+    let b = following c.items old.width m.number c.objects m.object c.shown t.at t.live in
     value_moved c.items b.item.slots new.slots.items (i * old.width) to old.width w (λ j q l at_q. filled j q l (record {
       items = c.items;
       holds = c.holds;

@@ -9,7 +9,7 @@ use Rattle.vlt_acts.specs.Values.Shown.{Seen}
 use Rattle.vlt_acts.specs.Values.Pushed.{HaveValues, Shows}
 use Rattle.vlt_acts.specs.Frames.Frames.{frame_end, NamesOwn, Stands}
 
--- behind the frame of f the values of the arguments stand, and the objects that g's clause wants are there
+-- after the frame of f the values of the arguments stand, and the objects that g's clause wants are there
 pub record IsCall (f g : Func) (keys : List ℕ) (h : Heap) (values : Values) (c : Seen h values) (w : World) (args : List Value) : Type 0 where
   pub caller : c.func ≡ f
   pub objects : w.objects ≡ c.objects

@@ -29,10 +29,10 @@ pub record IsLike (f g : Func) : Type 0 where
 abbrev pub frame_end : (width base : ℕ) → Func → ℕ
 frame_end w b f = b + length f.vars * w + length f.keys
 
--- a frame of the function runs, and so many slots stand behind it
-pub record IsRunning (values : Values) (f : Func) (behind : ℕ) : Type 0 where
+-- a frame of the function runs, and so many slots stand after it
+pub record IsRunning (values : Values) (f : Func) (following : ℕ) : Type 0 where
   pub vars : values.vars ≡ length f.vars
-  pub long : length values.slots.items ≡ frame_end values.width values.base f + behind
+  pub long : length values.slots.items ≡ frame_end values.width values.base f + following
 
 -- only keys of the function name objects
 abbrev pub NamesOwn : Func → Frame → Type 0

@@ -30,7 +30,7 @@ kept_at keys value e = if is_new e then value else keys + e.key
 
 -- it stands there, not below `base`
 pub record IsKeptAt (items : Items) (slots : List Slot) (base at n : ℕ) : Type 0 where
-  pub behind : base ≤ at
+  pub following : base ≤ at
   pub part : HasPartAt items slots at (reference n)
 
 -- the object of each entry
@@ -52,9 +52,9 @@ abbrev pub AreRoots : List Object → List ℕ → Type 0
 AreRoots objects [] = Unit {0}
 AreRoots objects (n ∷ ns) = IsRootAt objects n × AreRoots objects ns
 
--- the value has its slots behind the frame
+-- the value has its slots after the frame
 pub record IsGiven (items : Items) (values : Values) (v : Value) : Type 0 where
-  pub behind : values.base + values.width ≤ length values.slots.items
+  pub following : values.base + values.width ≤ length values.slots.items
   pub value : HaveValue items values.slots.items (value_at values) values.width v
 
 -- the function was left with a value, or without one, and with these objects

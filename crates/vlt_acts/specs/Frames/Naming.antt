@@ -16,7 +16,7 @@ KeysBelow keys top values = (i k : ℕ) → slice_get keys i ≡ Some k → key_
 
 -- only slots of keys below `top` changed
 pub record IsNamed (top : ℕ) (old new : Values) : Type 0 where
-  pub behind : (j : ℕ) → top ≤ j → slice_get new.slots.items j ≡ slice_get old.slots.items j
+  pub following : (j : ℕ) → top ≤ j → slice_get new.slots.items j ≡ slice_get old.slots.items j
   pub below : (j : ℕ) → j < old.base → slice_get new.slots.items j ≡ slice_get old.slots.items j
   pub long : length new.slots.items ≡ length old.slots.items
   pub room : vec_capacity new.slots ≡ vec_capacity old.slots

@@ -30,7 +30,7 @@ pub record Went (before : Items) (heap : Heap) (values : Values) (host : Host) (
   pub fuel : v.fuel ≡ w.fuel
   pub wrote : Wrote w v start end
 
--- Where the run goes wrong, any answer will do. The run may end behind what the sink took a part of.
+-- Where the run goes wrong, any answer will do. The run may end after what the sink took a part of.
 abbrev pub Comes : Items → Heap → Values → Host → (start end : Outside) → Result (Unit {0}) Stop → World → Step → Type 0
 Comes before heap values host start end (Ok u) w (goes frame v) = Went before heap values host start end w frame v
 Comes before heap values host start end (Err stop) w (goes frame v) = IsCut w start end stop v

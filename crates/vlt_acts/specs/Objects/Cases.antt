@@ -69,7 +69,7 @@ DoesFor p f old before new after r s =
 -- only slots of the running frame's variables were set
 pub record IsFrameSet (old new : Values) : Type 0 where
   pub below : (k : ℕ) → k < old.base → slice_get new.slots.items k ≡ slice_get old.slots.items k
-  pub behind : (k : ℕ) → old.base + old.vars * old.width ≤ k → slice_get new.slots.items k ≡ slice_get old.slots.items k
+  pub following : (k : ℕ) → old.base + old.vars * old.width ≤ k → slice_get new.slots.items k ≡ slice_get old.slots.items k
   pub long : length new.slots.items ≡ length old.slots.items
   pub room : vec_capacity new.slots ≡ vec_capacity old.slots
   pub base : new.base ≡ old.base

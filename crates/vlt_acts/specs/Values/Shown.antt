@@ -133,7 +133,7 @@ pub record IsCut (n : ℕ) (old new : Values) : Type 0 where
   pub vars : new.vars ≡ old.vars
   pub width : new.width ≡ old.width
 
--- a value can be written there: it is a variable's place, or it is behind all variables
+-- a value can be written there: it is a variable's place, or it is after all variables
 abbrev pub IsPlace : Values → ℕ → Type 0
 IsPlace values to = ((v : ℕ) × (v < values.vars) × (to ≡ var_at values v)) ⊎ (values.base + values.vars * values.width ≤ to)
 

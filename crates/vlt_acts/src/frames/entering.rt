@@ -37,7 +37,7 @@ fn push_keys(values: &mut Values, keys: &[KeyId])
     }
 }
 
-/// Enters a function, the values of whose arguments stand behind the frame of the caller.
+/// Enters a function, the values of whose arguments stand after the frame of the caller.
 pub fn enter<'a>(
     values: &mut Values,
     caller: &'a Func,

@@ -7,7 +7,7 @@ ghost use Rattle.vlt_core.specs.View.{func_of, keys_of, entry_of, operand_of};
 ghost use Rattle.vlt_core.specs.Lookups.{is_held_after};
 ghost use Rattle.vlt_heap.specs.declared.slots.Slot.{Slot};
 ghost use Rattle.vlt_heap.specs.Shown.{IsSound};
-ghost use Rattle.vlt_acts.specs.Values.Shown.{IsTable, IsGrown, key_at};
+ghost use Rattle.vlt_acts.specs.Values.Shown.{IsTable, IsGrown};
 ghost use Rattle.vlt_acts.specs.Acts.Acts.{IsSameFrame};
 ghost use Rattle.vlt_acts.specs.Frames.Frames.{IsLike, IsBelow, IsRunning};
 ghost use Rattle.vlt_acts.specs.Frames.Left.{Gives, Returns, kept_at, value_at};

@@ -75,7 +75,7 @@ fn write_case(
     requires fits { 1 + count + length keys.now ≤ values.old.width }
     requires before { to + values.old.width ≤
         values.old.base + values.old.vars * values.old.width }
-    requires behind { values.old.base + values.old.vars * values.old.width ≤ from }
+    requires following { values.old.base + values.old.vars * values.old.width ≤ from }
     requires there { from + count * values.old.width ≤ length values.old.slots.items }
     ensures kept { IsKept to values.old values.new }
     ensures writes { WritesCase (keys_for (keys_of args.now) (map case_key_of keys.now)) case
@@ -133,7 +133,7 @@ fn fill_parts(values: &mut Values, from: usize, vs: &[VarId])
     requires table { IsTable values.old }
     requires wide { 1 ≤ values.old.width }
     requires within { All (λ v. v.0 < values.old.vars) vs.now }
-    requires behind { values.old.base + values.old.vars * values.old.width ≤ from }
+    requires following { values.old.base + values.old.vars * values.old.width ≤ from }
     requires there { from + length vs.now ≤ length values.old.slots.items }
     ensures set { IsFrameSet values.old values.new }
     ensures fills { FillsParts from (map (λ v. v.0) vs.now) values.old values.new }

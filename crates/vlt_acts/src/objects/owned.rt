@@ -1,6 +1,6 @@
 //! The objects that slots own.
 
-ghost use Rattle.std.specs.Prelude.{◌≡◌, ◌∷◌, [], length};
+ghost use Rattle.std.specs.Prelude.{◌≡◌, ◌∷◌, []};
 ghost use Rattle.vlt_heap.specs.Shown.{IsSound, IsSameSize};
 ghost use Rattle.vlt_acts.specs.Objects.Owned.{CanHang, HangsAll, CanFree, FreesAll, CanDrop, DropsAll};
 

@@ -1,6 +1,6 @@
 //! The numbers that expressions give.
 
-ghost use Rattle.std.specs.Prelude.{◌≡◌, ◌≤◌, ℤ, length};
+ghost use Rattle.std.specs.Prelude.{◌≡◌, ◌≤◌, ℤ};
 ghost use Rattle.vlt_ops.specs.Operator.{bool_number};
 ghost use Rattle.vlt_core.specs.View.{expr_of};
 ghost use Rattle.vlt_core.specs.Core.{field as a_field};

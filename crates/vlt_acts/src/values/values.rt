@@ -1,6 +1,6 @@
 //! The values of all frames in one table.
 
-ghost use Rattle.std.specs.Prelude.{◌≡◌, ◌≤◌, ◌<◌, ◌+◌, ◌*◌, ◌^◌, ◌++◌, ◌∷◌, [], pos, take, drop, length, Some, IfOk, slice_get, slice_set, vec_capacity, max};
+ghost use Rattle.std.specs.Prelude.{◌≡◌, ◌≤◌, ◌<◌, ◌+◌, ◌*◌, ◌^◌, ◌++◌, ◌∷◌, [], take, drop, length, Some, IfOk, slice_get, slice_set, vec_capacity, max};
 ghost use Rattle.vlt_heap.specs.Shown.{IsSound};
 ghost use Rattle.vlt_acts.specs.Values.Filled.{IsFilled, IsCellSlot, IsSingleSlot};
 
@@ -22,7 +22,7 @@ pub struct Values {
 }
 
 /// The slots from a position on.
-fn behind(slots: &[Slot], n: usize) -> &[Slot]
+fn following(slots: &[Slot], n: usize) -> &[Slot]
     requires { n ≤ length slots.now }
     ensures { result.now ≡ drop n slots.now }
 {
@@ -113,7 +113,7 @@ impl Values {
             Some a → result ≡ a }
     {
         let k = u64::from(v.0) * u64::from(self.width) + u64::from(j);
-        at(behind(&self.slots, self.base), k)
+        at(following(&self.slots, self.base), k)
     }
 
     /// The slot at a position.
@@ -177,7 +177,7 @@ impl Values {
             Some a → result ≡ a }
     {
         let i = u64::from(self.vars) * u64::from(self.width) + u64::from(k.0);
-        at(behind(&self.slots, self.base), i)
+        at(following(&self.slots, self.base), i)
     }
 
     /// Sets the slot at a position.

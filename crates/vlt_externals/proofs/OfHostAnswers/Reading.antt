@@ -11,7 +11,7 @@ each_none f a rest zs e = ap (then_reads (λ b. each f rest >>= (λ bs. reads (b
 pub each_some : {A B : Type 0} (f : A → Reading B) (a : A) (rest : List A) (zs : List ℤ) (b : B) (more : List ℤ) → f a zs ≡ Some (b, more) → each f (a ∷ rest) zs ≡ then_reads (λ bs. reads (b ∷ bs)) (each f rest more)
 each_some f a rest zs b more e = ap (then_reads (λ b. each f rest >>= (λ bs. reads (b ∷ bs)))) e
 
--- what is left behind all but the first
+-- what is left after all but the first
 pub each_rest : {A B : Type 0} (f : A → Reading B) (a : A) (rest : List A) (zs : List ℤ) (b : B) (more : List ℤ) → f a zs ≡ Some (b, more) → rest_of (each f (a ∷ rest) zs) ≡ rest_of (each f rest more)
 each_rest {B = B} f a rest zs b more e = ap rest_of (each_some f a rest zs b more e) ∙ by (each f rest more)
   where

@@ -327,7 +327,7 @@ module _ (p : Program) (g : Func) (target : Option VarId) (keys : List ℕ) (h :
           by shown rest second left kept (Err o) (inl bad) = λ objects. bad
           by shown rest second left kept (Err o) (inr j) = absurd (false≢true (sym (ap is_ok j.is)))
 
--- ---- the table behind the call
+-- ---- the table after the call
 
 pub cut_below : (old cut two : Values) (from : ℕ) → old.base ≤ from → IsCut from old cut → vec_capacity cut.slots ≡ vec_capacity old.slots → IsSameBelow cut two → IsSameBelow old two
 cut_below old cut two from low cuts room below = record {

@@ -161,12 +161,12 @@ module _ (old a b new : Values) (h k : Heap) (d : CaseDecl) (keys args : List �
       later j = let e : (suc (length (ps ++ map owned ns)) + j == 0) ≡ false = grind (arith, nat_tests) in rw e refl
 
   pub case_put : (zs left : List ℤ) → Some left ≡ rest_of (each key_state d.keys zs) → PutsPieces d.payload left first a b h k (Ok tt) → PutsKeys keys args d.keys second b new → PutsCase keys args c d zs to old new h k (Ok tt)
-  case_put zs left behind puts packs items objects frame ns ss xs more rest holds shown key_slots before are read_keys read_payload =
+  case_put zs left following puts packs items objects frame ns ss xs more rest holds shown key_slots before are read_keys read_payload =
       by (pieces_made (heap_of h) d.payload xs objects) refl
       (puts items objects xs rest holds (subst (λ w. ShowObjects items w objects) (sym kept.width) shown) (ap (each piece_of d.payload) same ∙ read_payload))
     where
       same : left ≡ more
-      same = same_Some left more (behind ∙ ap rest_of read_keys)
+      same = same_Some left more (following ∙ ap rest_of read_keys)
 
       before_second : AreBefore second b frame
       before_second j m e = rw (row.base, row.vars, row.width, kept.base, kept.vars, kept.width) (let l = before j m e in omega (arith, l, is_second))
@@ -195,9 +195,9 @@ pub case_missing : (old new : Values) (h k : Heap) (d : CaseDecl) (keys args : L
 case_missing old new h k d keys args c to zs r none items objects frame ns ss xs more rest holds shown key_slots before are read_keys read_payload = absurd (none-some more (none ∙ ap rest_of read_keys))
 
 pub case_full : (old a b : Values) (h k : Heap) (d : CaseDecl) (keys args : List ℕ) (c to first : ℕ) (zs left : List ℤ) (e : HeapEnd) → a.width ≡ old.width → Some left ≡ rest_of (each key_state d.keys zs) → PutsPieces d.payload left first a b h k (Err e) → PutsCase keys args c d zs to old b h k (Err e)
-case_full old a b h k d keys args c to first zs left e width behind puts items objects frame ns ss xs more rest holds shown key_slots before are read_keys read_payload =
+case_full old a b h k d keys args c to first zs left e width following puts items objects frame ns ss xs more rest holds shown key_slots before are read_keys read_payload =
     by (pieces_made (heap_of h) d.payload xs objects)
-    (puts items objects xs rest holds (subst (λ w. ShowObjects items w objects) (sym width) shown) (ap (each piece_of d.payload) (same_Some left more (behind ∙ ap rest_of read_keys)) ∙ read_payload))
+    (puts items objects xs rest holds (subst (λ w. ShowObjects items w objects) (sym width) shown) (ap (each piece_of d.payload) (same_Some left more (following ∙ ap rest_of read_keys)) ∙ read_payload))
   where
     by : (z : Found (List Part × List Thing)) → ArePartsMade items k b first (Err e) z → IsValueMade items k b to (Err e) (z >>= (λ q. Ok (of_case c q.0 ns, q.1)))
     by (Ok q) m = absurd (false≢true (ap is_ok m.is))

@@ -1,4 +1,4 @@
--- What a call gives, as its value stands behind the frame.
+-- What a call gives, as its value stands after the frame.
 use Rattle.std.proofs.Common.{◌≡◌, ◌≢◌, ◌⊎◌, inl, inr, ◌<◌, ◌≤◌, ◌==◌, ◌+◌, ◌*◌, ℕ, ℤ, Bool, true, false, if◌then◌else◌, List, [], ◌∷◌, ◌++◌, filter, length, Option, None, Some, Result, Ok, Err, refl, sym, ap, ◌∙◌, subst, arith, slice_get}
 use Rattle.std.specs.Option.{option_map}
 use Rattle.std.specs.Result.{is_ok}
@@ -38,16 +38,16 @@ use Rattle.vlt_externals.proofs.OfHostAnswers.Reading.{each_none, each_some}
 use Rattle.vlt_externals.specs.Results.Results.{part_made, IsPartMade, MakesPart, MakesIn, AreBefore, IsValueMade, single_made, PutsPiece, variant_made, PutsVariant, Made, fresh_made, result_made, binding_of, NamesNew, IsResultMade, PutsNew, PutsFresh, PutsResult}
 use Rattle.vlt_externals.specs.declared.results.results.NewKey.{NewKey}
 
--- ---- what was put behind the frame leaves it as it is
+-- ---- what was put after the frame leaves it as it is
 
-pub behind_shown : (items : Items) (old new : Values) (frame : Frame) (to : ℕ) → IsKept to old new → old.base + old.vars * old.width ≤ to → AreBefore to old frame → ShowsFrame items old frame → ShowsFrame items new frame
-behind_shown items old new frame to kept behind before shown = record {
+pub after_shown : (items : Items) (old new : Values) (frame : Frame) (to : ℕ) → IsKept to old new → old.base + old.vars * old.width ≤ to → AreBefore to old frame → ShowsFrame items old frame → ShowsFrame items new frame
+after_shown items old new frame to kept following before shown = record {
   vars = λ v a e.
       let q = shown.vars v a e in
       let fits = row_fits v old.vars old.width old.width q.within (omega arith) in
       record {
         within = subst (λ n. v < n) (sym kept.vars) q.within;
-        value = rw (kept.base, kept.width) (value_same items old.slots.items new.slots.items (var_at old v) old.width a (λ j low high. kept.outside j (inl (omega (arith, high, fits, behind)))) q.value);
+        value = rw (kept.base, kept.width) (value_same items old.slots.items new.slots.items (var_at old v) old.width a (λ j low high. kept.outside j (inl (omega (arith, high, fits, following)))) q.value);
       };
   keys = λ k n e.
       let q = shown.keys k n e in
@@ -79,7 +79,7 @@ set_before old mid frame k n to a set low before j m e = rw (set.base, set.vars,
     by true t q = subst (λ z. key_at old z < to) (sym (equal_is j k t)) low
     by false t q = before j m q
 
-module _ (old mid new : Values) (h q : Heap) (t s key to number : ℕ) (o : Obj) (makes : MakesIn t s h q (Ok (o, number))) (wide : 1 ≤ old.width) (low : key_at old key < to) (behind : old.base + old.vars * old.width ≤ to) (set : IsKeySet key (Object o number) old mid) (kept : IsKept to mid new)
+module _ (old mid new : Values) (h q : Heap) (t s key to number : ℕ) (o : Obj) (makes : MakesIn t s h q (Ok (o, number))) (wide : 1 ≤ old.width) (low : key_at old key < to) (following : old.base + old.vars * old.width ≤ to) (set : IsKeySet key (Object o number) old mid) (kept : IsKept to mid new)
     (filled : IsFilled (IsSingleSlot (Object o number)) new.slots.items to mid.width) where
   pub new_put : PutsNew t (binding s key) to old new h q (Ok tt)
   new_put c before =
@@ -92,7 +92,7 @@ module _ (old mid new : Values) (h q : Heap) (t s key to number : ℕ) (o : Obj)
           items = m.1.shows.items;
           holds = m.1.shows.holds;
           objects_shown = subst (λ w. ShowObjects m.1.shows.items w (made c).objects) (sym (kept.width ∙ set.width)) m.1.shows.shown;
-          frame_shown = behind_shown m.1.shows.items mid new (made c).frame to kept (rw (set.base, set.vars, set.width) behind) (set_before old mid c.frame key (length c.objects) to (Object o number) set low before)
+          frame_shown = after_shown m.1.shows.items mid new (made c).frame to kept (rw (set.base, set.vars, set.width) following) (set_before old mid c.frame key (length c.objects) to (Object o number) set low before)
               (named_shown m.1.shows.items old mid c.frame key (length c.objects) (Object o number) set ref (frame_kept c.items m.1.shows.items old c.frame m.1.shows.kept c.fits));
           kept = m.1.shows.kept;
         };
@@ -110,7 +110,7 @@ module _ (old mid new : Values) (h q : Heap) (t s key to number : ℕ) (o : Obj)
 
   pub new_same : IsSameFrame old new
   new_same = record {
-    below = λ k l. kept.outside k (inl (omega (arith, l, behind))) ∙ set.others k (λ e. absurd (omega (arith, e, l)));
+    below = λ k l. kept.outside k (inl (omega (arith, l, following))) ∙ set.others k (λ e. absurd (omega (arith, e, l)));
     long = kept.long ∙ set.long;
     room = omega (arith, kept.room, set.room);
     base = kept.base ∙ set.base;
@@ -237,22 +237,22 @@ fault_end : (s : Outcome) → is_fault s ≡ true → s ≡ heap_end → ⊥
 fault_end s bad e = false≢true (sym (ap is_fault e) ∙ bad)
 
 module _ (p : Program) (g : Func) (keys : List ℕ) (zs rs : List ℤ) (to : ℕ) (old new : Values) (h q : Heap) (r : Result (Unit {0}) HeapEnd) where
-  -- the value stands behind the frame
+  -- the value stands after the frame
   value_result : (c : Seen h old) → IsKept to old new → old.base + old.vars * old.width ≤ to → AreBefore to old c.frame → (x : Found (Value × List Thing)) → IsValueMade c.items q new to r x
       → IsResultMade c.items q new to r (x >>= (λ b. Ok (record { value = Some b.0; frame = c.frame; objects = b.1 })))
-  value_result c kept behind before (Ok b) m = record {
+  value_result c kept following before (Ok b) m = record {
     is = m.is;
     shows = record {
       items = m.shows.items;
       holds = m.shows.holds;
       objects_shown = m.shows.shown;
-      frame_shown = behind_shown m.shows.items old new c.frame to kept behind before (frame_kept c.items m.shows.items old c.frame m.shows.kept c.fits);
+      frame_shown = after_shown m.shows.items old new c.frame to kept following before (frame_kept c.items m.shows.items old c.frame m.shows.kept c.fits);
       kept = m.shows.kept;
     };
     value = λ a e. subst (HaveValue m.shows.items new.slots.items to new.width) (same_Some b.0 a e) m.value;
     keys_before = kept_before old new c.frame to kept before;
   }
-  value_result c kept behind before (Err o) m = inl m
+  value_result c kept following before (Err o) m = inl m
 
   pub fresh_result : ((given : Given) → result_read p g.result rs ≡ Some (given, []) → nothing ≡ given) → PutsFresh p g (type_in g.result) keys zs to old new h q r → PutsResult p g keys zs rs to old new h q r
   fresh_result is puts c a before names states read =
@@ -260,7 +260,7 @@ module _ (p : Program) (g : Func) (keys : List ℕ) (zs rs : List ℤ) (to : ℕ
       (puts c a.states rs before states)
 
   pub variant_result : (v : VariantOf) → variant_in g.result ≡ Some v → result_read p g.result rs ≡ variant_read p v.type rs → IsKept to old new → old.base + old.vars * old.width ≤ to → PutsVariant p keys v rs to old new h q r → PutsResult p g keys zs rs to old new h q r
-  variant_result v is reads_it kept behind puts c a before names states read =
+  variant_result v is reads_it kept following puts c a before names states read =
       by a.result (puts c.items c.objects c.frame a.result c.holds c.shown c.fits.keys before (names v is) (sym reads_it ∙ read))
     where
       by : (given : Given) → IsValueMade c.items q new to r (variant_made (heap_of h) p v keys c.frame given c.objects) → IsResultMade c.items q new to r (result_made (heap_of h) p g keys a.states given c.frame c.objects)
@@ -268,17 +268,17 @@ module _ (p : Program) (g : Func) (keys : List ℕ) (zs rs : List ℤ) (to : ℕ
       by (piece x) m = absurd (fault_end (fault missing None) refl m.0)
       by (case_with d ss xs) m =
           subst (λ o. IsResultMade c.items q new to r (or_fault missing o >>= (λ v. variant_made (heap_of h) p v keys c.frame (case_with d ss xs) c.objects >>= (λ b. Ok (record { value = Some b.0; frame = c.frame; objects = b.1 }))))) (sym is)
-          (value_result c kept behind before (variant_made (heap_of h) p v keys c.frame (case_with d ss xs) c.objects) m)
+          (value_result c kept following before (variant_made (heap_of h) p v keys c.frame (case_with d ss xs) c.objects) m)
 
   pub piece_result : (t : Ty) → g.result ≡ Some t → result_read p g.result rs ≡ piece_read t rs → IsKept to old new → old.base + old.vars * old.width ≤ to → PutsPiece t rs to old new h q r → PutsResult p g keys zs rs to old new h q r
-  piece_result t is reads_it kept behind puts c a before names states read = by (piece_of t rs) refl (sym reads_it ∙ read)
+  piece_result t is reads_it kept following puts c a before names states read = by (piece_of t rs) refl (sym reads_it ∙ read)
     where
       by : (x : Option (Piece × List ℤ)) → piece_of t rs ≡ x → then_reads (λ x. reads (piece x)) x ≡ Some (a.result, []) → IsResultMade c.items q new to r (result_made (heap_of h) p g keys a.states a.result c.frame c.objects)
       by None at e = absurd (none-some (a.result, []) e)
       by (Some x) at e =
           subst (λ given. IsResultMade c.items q new to r (result_made (heap_of h) p g keys a.states given c.frame c.objects)) (ap (λ z. z.0) (same_Some (piece x.0, x.1) (a.result, []) e))
           (subst (λ o. IsResultMade c.items q new to r (single_made (heap_of h) (type_in o) x.0 c.objects >>= (λ b. Ok (record { value = Some b.0; frame = c.frame; objects = b.1 })))) (sym is)
-          (value_result c kept behind before (single_made (heap_of h) (type_in (Some t)) x.0 c.objects) (puts c.items c.objects x.0 x.1 c.holds c.shown at)))
+          (value_result c kept following before (single_made (heap_of h) (type_in (Some t)) x.0 c.objects) (puts c.items c.objects x.0 x.1 c.holds c.shown at)))
 
   pub none_result : g.result ≡ None → PutsFresh p g 0 keys zs to old new h q r → PutsResult p g keys zs rs to old new h q r
   none_result is puts =
@@ -290,9 +290,9 @@ module _ (p : Program) (g : Func) (keys : List ℕ) (zs rs : List ℤ) (to : ℕ
       fresh_result (λ given read. ap (λ z. z.0) (same_Some (nothing, rs) (given, []) (sym (ap (λ o. result_read p o rs) is) ∙ read)))
       (subst (λ o. PutsFresh p g (type_in o) keys zs to old new h q r) (sym is) puts)
 
-  module _ (t : ℕ) (args : List ℕ) (kept : IsKept to old new) (behind : old.base + old.vars * old.width ≤ to) (puts : PutsVariant p keys (record { type = t; args = args }) rs to old new h q r) where
+  module _ (t : ℕ) (args : List ℕ) (kept : IsKept to old new) (following : old.base + old.vars * old.width ≤ to) (puts : PutsVariant p keys (record { type = t; args = args }) rs to old new h q r) where
     pub copied_result : g.result ≡ Some (variant t args) → PutsResult p g keys zs rs to old new h q r
-    copied_result is = variant_result (record { type = t; args = args }) (ap variant_in is) (ap (λ o. result_read p o rs) is) kept behind puts
+    copied_result is = variant_result (record { type = t; args = args }) (ap variant_in is) (ap (λ o. result_read p o rs) is) kept following puts
 
     pub owning_result : g.result ≡ Some (owning_variant t args) → PutsResult p g keys zs rs to old new h q r
-    owning_result is = variant_result (record { type = t; args = args }) (ap variant_in is) (ap (λ o. result_read p o rs) is) kept behind puts
+    owning_result is = variant_result (record { type = t; args = args }) (ap variant_in is) (ap (λ o. result_read p o rs) is) kept following puts

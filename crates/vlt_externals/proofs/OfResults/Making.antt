@@ -23,7 +23,7 @@ use Rattle.vlt_meaning.specs.Externals.{from_host, type_in}
 use Rattle.vlt_acts.specs.declared.values.values.Values.{Values}
 use Rattle.vlt_acts.specs.Values.Parts.{HasPart, HaveParts}
 use Rattle.vlt_acts.specs.Values.Shown.{ShowObjects, IsRowSet, IsSlotSet}
-use Rattle.vlt_acts.proofs.OfValues.Fronts.{Behind, behind}
+use Rattle.vlt_acts.proofs.OfValues.Fronts.{Following, following}
 use Rattle.vlt_acts.proofs.OfActs.Keeping.{part_kept}
 use Rattle.vlt_acts.proofs.OfActs.Showing.{one_shown}
 use Rattle.vlt_acts.specs.Objects.Made.{SeesCells}
@@ -64,7 +64,7 @@ module _ (old mid new : Heap) (t s serial : ℕ) (o : Obj) (makes : Makes (Ok o)
       let x : Thing = new_object (any_reference t) [] any_frame in
       let y : Thing = from_host t s owner in
       let at : slice_get (objects ++ x ∷ []) (length objects) ≡ Some x = get_last objects x in
-      let b : Behind k.items values.width (length objects) x = behind k.items values.width (length objects) (objects ++ x ∷ []) x k.shown at refl in
+      let b : Following k.items values.width (length objects) x = following k.items values.width (length objects) (objects ++ x ∷ []) x k.shown at refl in
       let place = k.made.place b.item b.at in
       let keep : KeepMade k.items (with_item (length objects) (with_state s b.item) k.items) = kept_with k.items (length objects) b.item (with_state s b.item) b.at refl in (
         sym (full_same items values.width (heap_of old) objects shown) ∙ (makes items holds).room,

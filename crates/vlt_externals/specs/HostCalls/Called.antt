@@ -22,7 +22,7 @@ use Rattle.vlt_acts.specs.Hosts.Hosts.{ShowsHost, Comes}
 use Rattle.vlt_steps.specs.Writing.{Outside}
 use Rattle.vlt_externals.specs.Told.{AreArgs}
 
--- behind the frame the values of the arguments stand, and the keys that the call lists name objects
+-- after the frame the values of the arguments stand, and the keys that the call lists name objects
 pub record IsCall (p : Program) (g : Func) (keys : List ℕ) (h : Heap) (values : Values) (host : Host) (c : Seen h values) (w : World) (args : List Value) : Type 0 where
   pub program : c.program ≡ p
   pub objects : w.objects ≡ c.objects

@@ -88,7 +88,7 @@ abbrev pub IsHeeded : Items → Heap → Values → (to : ℕ) → Result (Unit 
 IsHeeded before heap values to r (Ok m) = HasHeeded before heap values to r m
 IsHeeded before heap values to r (Err o) = (is_fault o ≡ true) ⊎ HasHalted r o
 
--- whatever the tables showed; the value stands behind all that stood there
+-- whatever the tables showed; the value stands after all that stood there
 abbrev pub Heeds : Program → Func → (keys : List ℕ) → (position : ℕ) → List ℤ → (old new : Values) → (before after : Heap) → Result (Unit {0}) Stop → Type 0
 Heeds p g keys n zs old new before after r =
     (c : Seen before old) → NamesKeys g keys c.frame →

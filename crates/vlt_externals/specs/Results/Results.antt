@@ -27,7 +27,7 @@ use Rattle.vlt_externals.specs.Results.Stated.{AreCaseObjects}
 
 -- ---- what is made
 
--- a part of a value, and all objects behind it
+-- a part of a value, and all objects after it
 abbrev pub part_made : (budget type : ℕ) → Piece → List Object → Found (Part × List Object)
 part_made b t (plain z) objects = Ok (number z, objects)
 part_made b t (new_in s) objects =
@@ -46,7 +46,7 @@ case_made b c ts xs ns objects = do
   q ← pieces_made b ts xs objects
   Ok (of_case c q.0 ns, q.1)
 
--- what a call gives, with the frame and all objects behind it
+-- what a call gives, with the frame and all objects after it
 pub record Made : Type 0 where
   pub value : Option Value
   pub frame : Frame

@@ -79,9 +79,9 @@ pub fn entry_state<'h>(
     }
 }
 
-/// What is left behind the states of entries that are held after the call, in the instance of this origin. A bound entry's is
+/// What is left after the states of entries that are held after the call, in the instance of this origin. A bound entry's is
 /// the origin, so that nothing is read for it.
-pub fn behind_entries<'h>(
+pub fn after_entries<'h>(
     program: &Program,
     g: &Func,
     origin: Option<u8>,
@@ -101,38 +101,38 @@ pub fn behind_entries<'h>(
         Some((first, rest)) => {
             let e = program.entry_in(g, origin, *first);
             if !is_held_after(&e) {
-                return behind_entries(program, g, origin, rest, left);
+                return after_entries(program, g, origin, rest, left);
             }
             match entry_state(program, g, &e, left) {
                 None => None,
-                Some((_, left)) => behind_entries(program, g, origin, rest, left),
+                Some((_, left)) => after_entries(program, g, origin, rest, left),
             }
         }
     }
 }
 
-/// What is left behind the states of a case's keys.
-pub fn behind_keys<'h>(keys: &[(u32, StateSet)], left: &'h [i64]) -> Option<&'h [i64]>
+/// What is left after the states of a case's keys.
+pub fn following_keys<'h>(keys: &[(u32, StateSet)], left: &'h [i64]) -> Option<&'h [i64]>
     ensures { left_in result ≡ rest_of (each key_state (map case_key_of keys.now) left.now) }
 {
     match keys.split_first() {
         None => Some(left),
         Some((k, rest)) => match state(k.1, left) {
             None => None,
-            Some((_, left)) => behind_keys(rest, left),
+            Some((_, left)) => following_keys(rest, left),
         },
     }
 }
 
-/// What is left behind a payload.
-pub fn behind_pieces<'h>(payload: &[Ty], left: &'h [i64]) -> Option<&'h [i64]>
+/// What is left after a payload.
+pub fn after_pieces<'h>(payload: &[Ty], left: &'h [i64]) -> Option<&'h [i64]>
     ensures { left_in result ≡ rest_of (each piece_of (map ty_of payload.now) left.now) }
 {
     match payload.split_first() {
         None => Some(left),
         Some((t, rest)) => match read_piece(t, left) {
             None => None,
-            Some((_, left)) => behind_pieces(rest, left),
+            Some((_, left)) => after_pieces(rest, left),
         },
     }
 }

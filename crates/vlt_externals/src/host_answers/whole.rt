@@ -9,11 +9,11 @@ ghost use Rattle.vlt_externals.specs.HostAnswers.Read.{rest_of, left_in, AreSets
 ghost use Rattle.vlt_externals.specs.HostAnswers.Whole.{IsCaseRead, IsFitting};
 
 use crate::host_answers::numbers::below;
-use crate::host_answers::pieces::{behind_entries, behind_keys, behind_pieces, read_piece};
+use crate::host_answers::pieces::{after_entries, after_pieces, following_keys, read_piece};
 use vlt_base::TypeId;
 use vlt_core::{CaseDecl, Func, Program, Ty, TypeDecl};
 
-/// A case of a variant, and the numbers behind its own.
+/// A case of a variant, and the numbers after its own.
 #[derive(Clone, Copy)]
 pub struct CaseRead<'a, 'h> {
     pub case: usize,
@@ -49,21 +49,21 @@ pub fn read_case<'a, 'h>(
     }
 }
 
-/// What is left behind a value of a variant.
-fn behind_variant<'h>(program: &Program, t: TypeId, left: &'h [i64]) -> Option<&'h [i64]>
+/// What is left after a value of a variant.
+fn after_variant<'h>(program: &Program, t: TypeId, left: &'h [i64]) -> Option<&'h [i64]>
     ensures { left_in result ≡ rest_of (variant_read (program_of program.now) t.0 left.now) }
 {
     match read_case(program, t, left) {
         None => None,
-        Some(read) => match behind_keys(read.decl.keys.as_slice(), read.left) {
+        Some(read) => match following_keys(read.decl.keys.as_slice(), read.left) {
             None => None,
-            Some(left) => behind_pieces(read.decl.payload.as_slice(), left),
+            Some(left) => after_pieces(read.decl.payload.as_slice(), left),
         },
     }
 }
 
-/// What is left behind a number, a bool or a new object.
-fn behind_piece<'h>(t: &Ty, left: &'h [i64]) -> Option<&'h [i64]>
+/// What is left after a number, a bool or a new object.
+fn after_piece<'h>(t: &Ty, left: &'h [i64]) -> Option<&'h [i64]>
     ensures { left_in result ≡ rest_of (piece_read (ty_of t.now) left.now) }
 {
     match read_piece(t, left) {
@@ -72,17 +72,17 @@ fn behind_piece<'h>(t: &Ty, left: &'h [i64]) -> Option<&'h [i64]>
     }
 }
 
-/// What is left behind the result of an external.
-fn behind_result<'h>(program: &Program, g: &Func, left: &'h [i64]) -> Option<&'h [i64]>
+/// What is left after the result of an external.
+fn following_result<'h>(program: &Program, g: &Func, left: &'h [i64]) -> Option<&'h [i64]>
     ensures { left_in result ≡
         rest_of (result_read (program_of program.now) (func_of g.now).result left.now) }
 {
     match &g.result {
         None => Some(left),
         Some(Ty::Key(..)) => Some(left),
-        Some(Ty::Var(t, _)) => behind_variant(program, *t, left),
-        Some(Ty::OwnVar(t, _)) => behind_variant(program, *t, left),
-        Some(t) => behind_piece(t, left),
+        Some(Ty::Var(t, _)) => after_variant(program, *t, left),
+        Some(Ty::OwnVar(t, _)) => after_variant(program, *t, left),
+        Some(t) => after_piece(t, left),
     }
 }
 
@@ -100,9 +100,9 @@ pub fn fitting<'h>(
         IsFitting (program_of program.now)
         (instance (program_of program.now) (func_of g.now) origin) answer.now result }
 {
-    match behind_entries(program, g, origin, g.clause.as_slice(), answer) {
+    match after_entries(program, g, origin, g.clause.as_slice(), answer) {
         None => None,
-        Some(result) => match behind_result(program, g, result) {
+        Some(result) => match following_result(program, g, result) {
             None => None,
             Some([]) => Some(result),
             Some(_) => None,

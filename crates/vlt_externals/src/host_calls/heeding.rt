@@ -1,4 +1,4 @@
-//! What an answer says is done: objects come back, states are set, and the value that it gives is put behind all others.
+//! What an answer says is done: objects come back, states are set, and the value that it gives is put after all others.
 
 ghost use Rattle.std.specs.Prelude.{◌≡◌, ◌≤◌, ◌+◌, length, IfOk, vec_capacity};
 ghost use Rattle.vlt_core.specs.View.{program_of, func_of, keys_of};

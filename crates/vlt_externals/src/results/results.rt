@@ -4,7 +4,7 @@ ghost use Rattle.std.specs.Prelude.{◌≡◌, ◌≤◌, ◌<◌, ◌+◌, ◌*
 ghost use Rattle.vlt_core.specs.View.{program_of, func_of, entry_of, ty_of, keys_of, case_key_of, case_of};
 ghost use Rattle.vlt_core.specs.Instances.{instance};
 ghost use Rattle.vlt_meaning.specs.Externals.{type_in};
-ghost use Rattle.vlt_heap.specs.Shown.{IsSound, IsSameSize, IsLive};
+ghost use Rattle.vlt_heap.specs.Shown.{IsSound, IsSameSize};
 ghost use Rattle.vlt_acts.specs.Values.Shown.{IsTable, IsRowSet, IsKept, key_at};
 ghost use Rattle.vlt_acts.specs.Acts.Acts.{IsSameFrame};
 ghost use Rattle.vlt_acts.specs.Frames.Naming.{KeysBelow};
@@ -13,7 +13,7 @@ ghost use Rattle.vlt_externals.specs.Results.Results.{IsListed, binding_of, Name
 
 use crate::caller_key;
 use crate::host_answers::{
-    CaseRead, Piece, behind_keys, entry_state, is_held_after, read_case, read_piece,
+    CaseRead, Piece, entry_state, following_keys, is_held_after, read_case, read_piece,
 };
 use crate::results::keys::{case_key, is_new};
 use vlt_acts::Values;
@@ -199,7 +199,7 @@ fn put_case(
     let listed = read.decl.keys.as_slice();
     let payload = read.decl.payload.as_slice();
     values.put_single(to, Slot::Number(number));
-    match behind_keys(listed, read.left) {
+    match following_keys(listed, read.left) {
         None => Ok(()),
         Some(left) => match put_pieces(values, heap, payload, left, to + 1) {
             Err(e) => Err(e),
@@ -223,7 +223,7 @@ fn put_new(
     requires table { IsTable values.old }
     requires wide { 1 ≤ values.old.width }
     requires key { key_at values.old new.key.0 < to }
-    requires behind { values.old.base + values.old.vars * values.old.width ≤ to }
+    requires following { values.old.base + values.old.vars * values.old.width ≤ to }
     requires there { to + values.old.width ≤ length values.old.slots.items }
     ensures sound { IsSound heap.new }
     ensures size { IsSameSize heap.old heap.new }
@@ -317,7 +317,7 @@ fn put_fresh(
     requires table { IsTable values.old }
     requires wide { 1 ≤ values.old.width }
     requires keys { KeysBelow (keys_of keys.now) to values.old }
-    requires behind { values.old.base + values.old.vars * values.old.width ≤ to }
+    requires following { values.old.base + values.old.vars * values.old.width ≤ to }
     requires there { to + values.old.width ≤ length values.old.slots.items }
     requires within { AreWithin (program_of program.now) (func_of g.now) origin
         (func_of g.now).clause }
@@ -355,7 +355,7 @@ fn put_given(
     requires result { (func_of g.now).result ≡ Some (ty_of t.now) }
     requires fits { FitsResult (program_of program.now) (func_of g.now) values.old.width }
     requires keys { KeysBelow (keys_of keys.now) to values.old }
-    requires behind { values.old.base + values.old.vars * values.old.width ≤ to }
+    requires following { values.old.base + values.old.vars * values.old.width ≤ to }
     requires there { to + values.old.width ≤ length values.old.slots.items }
     requires within { AreWithin (program_of program.now) (func_of g.now) origin
         (func_of g.now).clause }
@@ -397,7 +397,7 @@ pub fn put_result(
     requires wide { 1 ≤ values.old.width }
     requires fits { FitsResult (program_of program.now) (func_of g.now) values.old.width }
     requires keys { KeysBelow (keys_of keys.now) to values.old }
-    requires behind { values.old.base + values.old.vars * values.old.width ≤ to }
+    requires following { values.old.base + values.old.vars * values.old.width ≤ to }
     requires there { to + values.old.width ≤ length values.old.slots.items }
     requires within { AreWithin (program_of program.now) (func_of g.now) origin
         (func_of g.now).clause }

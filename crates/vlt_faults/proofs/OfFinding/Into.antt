@@ -101,43 +101,43 @@ slot_has xs ys n m x lt e into o h = subst (λ z. In (many_of z) o) (sym (ap (λ
 put_gap : (xs : List Ones) (n : ℕ) (x : Ones) → n < length xs → gap_of x < gap_of (slot xs n) → sum_by gap_of (set xs n x) < sum_by gap_of xs
 put_gap xs n x lt near = let e = sum_by-set gap_of xs n x no_ones lt in omega arith
 
-pub head_put : (n : ℕ) (m : Ones) (old new : Marks) → n < length old.around → IsPut n m old.around new.around old.grew new.grew → new.behind ≡ old.behind → IntoHead n (many_of m) (stock_of old) (stock_of new)
+pub head_put : (n : ℕ) (m : Ones) (old new : Marks) → n < length old.around → IsPut n m old.around new.around old.grew new.grew → new.following ≡ old.following → IntoHead n (many_of m) (stock_of old) (stock_of new)
 head_put n m old new lt p e = record {
-  more = record { around = slot_more old.around new.around n m p.value lt p.is p.into; behind = λ i o h. subst (λ l. In (at l i) o) (sym e) h };
+  more = record { around = slot_more old.around new.around n m p.value lt p.is p.into; following = λ i o h. subst (λ l. In (at l i) o) (sym e) h };
   has = slot_has old.around new.around n m p.value lt p.is p.into;
   comes = slot_comes old.around new.around n m p.value lt p.is p.into;
   others = λ i o h. subst (λ l. In (at l i) o) e h;
 }
 
-pub exit_put : (n : ℕ) (m : Ones) (old new : Marks) → n < length old.behind → IsPut n m old.behind new.behind old.grew new.grew → new.around ≡ old.around → IntoExit n (many_of m) (stock_of old) (stock_of new)
+pub exit_put : (n : ℕ) (m : Ones) (old new : Marks) → n < length old.following → IsPut n m old.following new.following old.grew new.grew → new.around ≡ old.around → IntoExit n (many_of m) (stock_of old) (stock_of new)
 exit_put n m old new lt p e = record {
-  more = record { around = λ i o h. subst (λ l. In (at l i) o) (sym e) h; behind = slot_more old.behind new.behind n m p.value lt p.is p.into };
-  has = slot_has old.behind new.behind n m p.value lt p.is p.into;
-  comes = slot_comes old.behind new.behind n m p.value lt p.is p.into;
+  more = record { around = λ i o h. subst (λ l. In (at l i) o) (sym e) h; following = slot_more old.following new.following n m p.value lt p.is p.into };
+  has = slot_has old.following new.following n m p.value lt p.is p.into;
+  comes = slot_comes old.following new.following n m p.value lt p.is p.into;
   others = λ i o h. subst (λ l. In (at l i) o) e h;
 }
 
-same_marks : (old new : Marks) → new.around ≡ old.around → new.behind ≡ old.behind → new.grew ≡ old.grew → new ≡ old
-same_marks old new p q r = λ i. record { around = p i; behind = q i; grew = r i }
+same_marks : (old new : Marks) → new.around ≡ old.around → new.following ≡ old.following → new.grew ≡ old.grew → new ≡ old
+same_marks old new p q r = λ i. record { around = p i; following = q i; grew = r i }
 
-pub head_went : (n : ℕ) (m : Ones) (old new : Marks) → n < length old.around → IsPut n m old.around new.around old.grew new.grew → new.behind ≡ old.behind → Went old new
+pub head_went : (n : ℕ) (m : Ones) (old new : Marks) → n < length old.around → IsPut n m old.around new.around old.grew new.grew → new.following ≡ old.following → Went old new
 head_went n m old new lt p e = record {
   around = ap length p.is ∙ length-set old.around n p.value;
-  behind = ap length e;
+  following = ap length e;
   grown = ⊎_elim (λ x. inl (same_marks old new x.0 e x.1))
       (λ x. inr (x.0, let a = put_gap old.around n p.value lt x.1 in let b = ap (sum_by gap_of) p.is in let c = ap (sum_by gap_of) e in omega arith)) p.near;
 }
 
-pub exit_went : (n : ℕ) (m : Ones) (old new : Marks) → n < length old.behind → IsPut n m old.behind new.behind old.grew new.grew → new.around ≡ old.around → Went old new
+pub exit_went : (n : ℕ) (m : Ones) (old new : Marks) → n < length old.following → IsPut n m old.following new.following old.grew new.grew → new.around ≡ old.around → Went old new
 exit_went n m old new lt p e = record {
   around = ap length e;
-  behind = ap length p.is ∙ length-set old.behind n p.value;
+  following = ap length p.is ∙ length-set old.following n p.value;
   grown = ⊎_elim (λ x. inl (same_marks old new e x.0 x.1))
-      (λ x. inr (x.0, let a = put_gap old.behind n p.value lt x.1 in let b = ap (sum_by gap_of) p.is in let c = ap (sum_by gap_of) e in omega arith)) p.near;
+      (λ x. inr (x.0, let a = put_gap old.following n p.value lt x.1 in let b = ap (sum_by gap_of) p.is in let c = ap (sum_by gap_of) e in omega arith)) p.near;
 }
 
 pub went_refl : (k : Marks) → Went k k
-went_refl k = record { around = refl; behind = refl; grown = inl refl }
+went_refl k = record { around = refl; following = refl; grown = inl refl }
 
 grown_trans : (a b c : Marks) → IsGrown a b → IsGrown b c → IsGrown a c
 grown_trans a b c (inl e) y = subst (λ k. IsGrown k c) e y
@@ -145,7 +145,7 @@ grown_trans a b c (inr x) (inl e) = subst (λ k. IsGrown a k) (sym e) (inr x)
 grown_trans a b c (inr x) (inr y) = inr (y.0, let p = x.1 in let q = y.1 in omega arith)
 
 pub went_trans : (a b c : Marks) → Went a b → Went b c → Went a c
-went_trans a b c p q = record { around = q.around ∙ p.around; behind = q.behind ∙ p.behind; grown = grown_trans a b c p.grown q.grown }
+went_trans a b c p q = record { around = q.around ∙ p.around; following = q.following ∙ p.following; grown = grown_trans a b c p.grown q.grown }
 
 none_nothing : IsNothing (many_of no_ones)
 none_nothing = record { none = none }

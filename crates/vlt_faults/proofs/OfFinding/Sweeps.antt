@@ -20,7 +20,7 @@ pub split_at : {X : Type 0} (xs : List X) (i : ℕ) (x : X) → i < length xs �
 split_at xs i x lt read = rw add-one (drop-cons xs i x lt ∙ ap (λ y. y ∷ drop (suc i) xs) (sym read))
 
 pub room_went : (k k' : Marks) (l : Option ℕ) (m : ℕ) → HasRoom k l m → Went k k' → HasRoom k' l m
-room_went k k' l m r w = record { fits = omega (arith, r.fits, w.around); long = w.behind ∙ r.long ∙ sym w.around; few = omega (arith, r.few, w.around); loop = subst (ForLoop l) (sym w.around) r.loop }
+room_went k k' l m r w = record { fits = omega (arith, r.fits, w.around); long = w.following ∙ r.long ∙ sym w.around; few = omega (arith, r.few, w.around); loop = subst (ForLoop l) (sym w.around) r.loop }
 
 pub room_less : (k : Marks) (l : Option ℕ) (m m' : ℕ) → HasRoom k l m → m' ≤ m → HasRoom k l m'
 room_less k l m m' r p = record { fits = omega (arith, r.fits); long = r.long; few = r.few; loop = r.loop }
@@ -99,13 +99,13 @@ arming_at t l c arms m x i at k past g = let e = ap (λ ss. size_arms (arms_view
 
 -- ---- sweeps over a whole body
 
-pub room_begun : (k k' : Marks) (l : Option ℕ) (m : ℕ) → HasRoom k l m → k'.around ≡ k.around → k'.behind ≡ k.behind → HasRoom k' l m
+pub room_begun : (k k' : Marks) (l : Option ℕ) (m : ℕ) → HasRoom k l m → k'.around ≡ k.around → k'.following ≡ k.following → HasRoom k' l m
 room_begun k k' l m r p q = record { fits = omega (arith, r.fits, ap length p); long = ap length q ∙ r.long ∙ sym (ap length p); few = omega (arith, r.few, ap length p); loop = subst (λ xs. ForLoop l (length xs)) (sym p) r.loop }
 
-pub reached_begun : (t : Tok) (s : s.Block) (S : Ones) (k k' : Marks) → IsReached t s S (stock_of k) → k'.around ≡ k.around → k'.behind ≡ k.behind → IsReached t s S (stock_of k')
+pub reached_begun : (t : Tok) (s : s.Block) (S : Ones) (k k' : Marks) → IsReached t s S (stock_of k) → k'.around ≡ k.around → k'.following ≡ k.following → IsReached t s S (stock_of k')
 reached_begun t s S k k' r p q = record {
   around = λ i o h. r.around i o (subst (λ xs. In (at xs i) o) p h);
-  behind = λ i o h. r.behind i o (subst (λ xs. In (at xs i) o) q h);
+  following = λ i o h. r.following i o (subst (λ xs. In (at xs i) o) q h);
 }
 
 -- a sweep that sets no flag changes nothing
@@ -115,7 +115,7 @@ unchanged k k' w e = ⊎_elim (λ x. x) (λ x. absurd (not_true (subst IsTrue e 
 pub has_less : (k k' : Marks) → Went k k' → k.grew ≡ false → k'.grew ≡ true → gap k' < gap k
 has_less k k' w e f = ⊎_elim (λ x. absurd (not_true (subst IsTrue (sym f ∙ ap (λ k. k.grew) x ∙ e) (search rules)))) (λ x. x.1) w.grown
 
-pub gap_begun : (k k' : Marks) → k'.around ≡ k.around → k'.behind ≡ k.behind → gap k' ≡ gap k
+pub gap_begun : (k k' : Marks) → k'.around ≡ k.around → k'.following ≡ k.following → gap k' ≡ gap k
 gap_begun k k' p q = let a = ap (sum_by gap_of) p in let b = ap (sum_by gap_of) q in omega arith
 
 pub found_after : (t : Tok) (s : s.Block) (m : Many) (k k' : Marks) (r : Many) → SweptBlock t s None 0 (stock_of k) m (stock_of k') r → Went k k' → k'.grew ≡ false → IsReached t s (In m) (stock_of k) → IsFoundIn t s (In m) (stock_of k')

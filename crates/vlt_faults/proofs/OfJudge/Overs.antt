@@ -99,7 +99,7 @@ mutual
 pub found_same : (t : Tok) (s : Block) (S T : Ones) (k : Stock) → ((o : One) → S o ↔ T o) → IsFoundIn t s S k → IsFoundIn t s T k
 found_same t s S T k e f = record {
   around = λ i o. (λ x. heads_more_block s t 0 S T (λ o y. (e o).0 y) i o ((f.around i o).0 x), λ x. (f.around i o).1 (heads_more_block s t 0 T S (λ o y. (e o).1 y) i o x));
-  behind = λ i o. (λ x. exits_more_block s t 0 S T (λ o y. (e o).0 y) i o ((f.behind i o).0 x), λ x. (f.behind i o).1 (exits_more_block s t 0 T S (λ o y. (e o).1 y) i o x));
+  following = λ i o. (λ x. exits_more_block s t 0 S T (λ o y. (e o).0 y) i o ((f.following i o).0 x), λ x. (f.following i o).1 (exits_more_block s t 0 T S (λ o y. (e o).1 y) i o x));
 }
 
 -- ---- more tokens
@@ -155,12 +155,12 @@ over_token s h t m k y e f found =
     (record { tables = k; found = found_same t s (In (many_of m)) (Has (h t)) (stock_of k) e found })
 
 pub fits_found : (t : Tok) (s : Block) (m : D.Ones) (k : Marks) → IsFoundIn t s (In (many_of m)) (stock_of k) → FittingBlock k t s (record { stmt = 0; spot = 0; ones = m })
-fits_found t s m k f = fits_block s (λ i. In (table k.around i)) (λ i. In (table k.behind i)) t 0 (In (many_of m))
+fits_found t s m k f = fits_block s (λ i. In (table k.around i)) (λ i. In (table k.following i)) t 0 (In (many_of m))
     (record { there = λ i o p q x. (f.around i o).0 x; back = λ i o x. (f.around i o).1 x })
-    (record { there = λ i o p q x. (f.behind i o).0 x; back = λ i o x. (f.behind i o).1 x })
+    (record { there = λ i o p q x. (f.following i o).0 x; back = λ i o x. (f.following i o).1 x })
 
-pub room_found : (s : Block) (h : HeldMap) (e : Whole) (m : D.Ones) (k : Marks) → IsWhole s h e → length k.around ≡ size_block s → length k.behind ≡ length k.around → HasRoom k (size_block s) (spots_block s) (record { stmt = 0; spot = 0; ones = m })
-room_found s h e m k w long behind = let a = w.few in let b = w.few_spots in record { fits = omega (arith, long); long = behind; few = omega (arith, long, a); numbers = omega (arith, b) }
+pub room_found : (s : Block) (h : HeldMap) (e : Whole) (m : D.Ones) (k : Marks) → IsWhole s h e → length k.around ≡ size_block s → length k.following ≡ length k.around → HasRoom k (size_block s) (spots_block s) (record { stmt = 0; spot = 0; ones = m })
+room_found s h e m k w long following = let a = w.few in let b = w.few_spots in record { fits = omega (arith, long); long = following; few = omega (arith, long, a); numbers = omega (arith, b) }
 
 -- ---- tokens that no row names
 
@@ -175,7 +175,7 @@ beyond_later keys vars (a_var v) b = tt
 found_named : (t u : Tok) (s : Block) (S : Ones) (k : Stock) → AvoidsBlock t s → AvoidsBlock u s → IsFoundIn t s S k → IsFoundIn u s S k
 found_named t u s S k p q f = record {
   around = λ i o. subst (λ F. In (k.around i) o ↔ F S i o) (heads_block_named t u s 0 p q) (f.around i o);
-  behind = λ i o. subst (λ F. In (k.behind i) o ↔ F S i o) (exits_block_named t u s 0 p q) (f.behind i o);
+  following = λ i o. subst (λ F. In (k.following i) o ↔ F S i o) (exits_block_named t u s 0 p q) (f.following i o);
 }
 
 -- the key of the first number past all stands for each token beyond

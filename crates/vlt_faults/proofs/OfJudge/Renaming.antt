@@ -69,7 +69,7 @@ module _ (t u : Tok) where
       let m = images_named rs p.0 q.0 in let f = out_block_named s to_next p.1 q.1 in let g = out_block_named s to_continue p.1 q.1 in
       λ i S o. heads (λ T. both (f i (λ z. m i T z)) (g i (λ z. m i T z))) S o
 
-  -- ---- what is found at the heads and behind
+  -- ---- what is found at the heads and after
 
   mutual
     heads_named : (s : Flow) (n : ℕ) → Avoids t s → Avoids u s → found_head t s n ≡ found_head u s n

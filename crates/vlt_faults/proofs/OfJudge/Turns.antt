@@ -48,15 +48,15 @@ list_more : (k : Marks) (t : Tok) (all : Stmts) (from : Point) (at : ℕ) (s : F
 list_more k t all from at s rest p x y r g j e =
     let back : IsSameOnes (out t s (at_point p) to_next) (at_point r.next) = turned (at_point r.next) (out t s (at_point p) to_next) j.just in
     record {
-      stmts = let a = g.stmts in let b = j.behind.stmt in omega (arith, a, b);
-      spots = let a = g.spots in let b = j.behind.spot in omega (arith, a, b);
-      low = let a = g.low in let b = j.behind.stmt in omega (arith, a, b);
-      fits = subst (λ n. FitsStmts (λ i. In (table k.around i)) (λ i. In (table k.behind i)) t rest n (at_point r.next)) (sym j.behind.stmt) (stmts_fits_same (λ i. In (table k.around i)) (λ i. In (table k.behind i)) t rest (p.stmt + size s) (out t s (at_point p) to_next) (at_point r.next) back g.fits.1);
+      stmts = let a = g.stmts in let b = j.following.stmt in omega (arith, a, b);
+      spots = let a = g.spots in let b = j.following.spot in omega (arith, a, b);
+      low = let a = g.low in let b = j.following.stmt in omega (arith, a, b);
+      fits = subst (λ n. FitsStmts (λ i. In (table k.around i)) (λ i. In (table k.following i)) t rest n (at_point r.next)) (sym j.following.stmt) (stmts_fits_same (λ i. In (table k.around i)) (λ i. In (table k.following i)) t rest (p.stmt + size s) (out t s (at_point p) to_next) (at_point r.next) back g.fits.1);
       just = same_chain (out_stmts t rest (at_point r.next) to_next) (out_stmts t rest (out t s (at_point p) to_next) to_next) (out_stmts t all (at_point from) to_next) (stmts_out_same t rest (at_point r.next) (out t s (at_point p) to_next) j.just) g.just;
       going = going_more t x r.first y _ _ _ _ _ _ _ _ g.going j.first e
-          (λ q. ⊎_elim (λ z. inl z) (λ z. inr (subst (λ n. SpotAtStmts IsUnwanted IsMixed q t n rest (at_point r.next)) (sym j.behind.spot) (stmts_moved t (out t s (at_point p) to_next) (at_point r.next) back q (p.spot + spots s) rest z))))
+          (λ q. ⊎_elim (λ z. inl z) (λ z. inr (subst (λ n. SpotAtStmts IsUnwanted IsMixed q t n rest (at_point r.next)) (sym j.following.spot) (stmts_moved t (out t s (at_point p) to_next) (at_point r.next) back q (p.spot + spots s) rest z))))
           (λ kind q z. inl z)
-          (λ kind q z. inr (stmts_told t (at_point r.next) (out t s (at_point p) to_next) j.just kind q (p.spot + spots s) rest (subst (λ n. SpotAtStmts (TellsUnwanted kind) (TellsMixed kind) q t n rest (at_point r.next)) j.behind.spot z)));
+          (λ kind q z. inr (stmts_told t (at_point r.next) (out t s (at_point p) to_next) j.just kind q (p.spot + spots s) rest (subst (λ n. SpotAtStmts (TellsUnwanted kind) (TellsMixed kind) q t n rest (at_point r.next)) j.following.spot z)));
     }
 
 abbrev pub Listing : Marks → Tok → List FlowStmt → Point → ℕ → Point → Option Blame → Type 0
@@ -92,7 +92,7 @@ listing_ends k t stmts from i p x past g =
     record {
       first = going_ends t x _ _ _ _ h.going (λ q z. z);
       just = record { there = λ o z. h.just.there o z; back = λ o z. h.just.back o z };
-      behind = record { stmt = let a = h.stmts in omega (arith, a); spot = let a = h.spots in omega (arith, a) };
+      following = record { stmt = let a = h.stmts in omega (arith, a); spot = let a = h.spots in omega (arith, a) };
     }
 
 -- ---- arms
@@ -101,7 +101,7 @@ pub record ArmsGoing (k : Marks) (t : Tok) (at : ℕ) (all : Arms) (from : Point
   pub stmts : p.stmt + size_arms rest ≡ from.stmt + size_arms all
   pub spots : p.spot + spots_arms rest ≡ from.spot + spots_arms all
   pub low : from.stmt ≤ p.stmt
-  pub fits : FitsArms (λ i. In (table k.around i)) (λ i. In (table k.behind i)) t rest p.stmt (at_point from)
+  pub fits : FitsArms (λ i. In (table k.around i)) (λ i. In (table k.following i)) t rest p.stmt (at_point from)
   pub going : Going t x
       (λ q. SpotAtArms IsUnwanted IsMixed q t at from.spot all (at_point from)) (λ q. SpotAtArms IsUnwanted IsMixed q t at p.spot rest (at_point from))
       (λ kind q. SpotAtArms (TellsUnwanted kind) (TellsMixed kind) q t at from.spot all (at_point from)) (λ kind q. SpotAtArms (TellsUnwanted kind) (TellsMixed kind) q t at p.spot rest (at_point from))
@@ -109,13 +109,13 @@ pub record ArmsGoing (k : Marks) (t : Tok) (at : ℕ) (all : Arms) (from : Point
 arms_more : (k : Marks) (t : Tok) (at : ℕ) (all : Arms) (from : Point) (rs : List Row) (s : Block) (rest : Arms) (p b : Point) (x w v y : Option Blame) (r : Judged) → ArmsGoing k t at all from (arm rs s rest) p x →
     FirstOfRows t at p.spot rs (at_point from) w → b.stmt ≡ p.stmt → b.spot ≡ p.spot + length rs → IsSameOnes (at_point b) (images t rs (at_point from)) → IsJudgedBlock t s b r → IsEarlier w r.first v → IsEarlier x v y → ArmsGoing k t at all from rest r.next y
 arms_more k t at all from rs s rest p b x w v y r g fw bs bc same j e f =
-    let stmt : r.next.stmt ≡ p.stmt + size_block s = j.behind.stmt ∙ ap (λ n. n + size_block s) bs in
-    let spot : r.next.spot ≡ p.spot + length rs + spots_block s = j.behind.spot ∙ ap (λ n. n + spots_block s) bc in
+    let stmt : r.next.stmt ≡ p.stmt + size_block s = j.following.stmt ∙ ap (λ n. n + size_block s) bs in
+    let spot : r.next.spot ≡ p.spot + length rs + spots_block s = j.following.spot ∙ ap (λ n. n + spots_block s) bc in
     record {
       stmts = let a = g.stmts in omega (arith, a, stmt);
       spots = let a = g.spots in omega (arith, a, spot);
       low = let a = g.low in omega (arith, a, stmt);
-      fits = subst (λ n. FitsArms (λ i. In (table k.around i)) (λ i. In (table k.behind i)) t rest n (at_point from)) (sym stmt) g.fits.1;
+      fits = subst (λ n. FitsArms (λ i. In (table k.around i)) (λ i. In (table k.following i)) t rest n (at_point from)) (sym stmt) g.fits.1;
       going = going_more t x v y _ _ _ _ _ _ _ _ g.going
           (first_sum t w r.first v _ _ _ _ fw (subst (λ n. FirstOfBlock t n s (images t rs (at_point from)) r.first) bc (block_first_same t b.spot s (at_point b) (images t rs (at_point from)) r.first same j.first)) e) f
           (λ q. ⊎_elim (λ z. inl (inl z)) (⊎_elim (λ z. inl (inr z)) (λ z. inr (subst (λ n. SpotAtArms IsUnwanted IsMixed q t at n rest (at_point from)) (sym spot) z))))
@@ -149,7 +149,7 @@ pub arming_fits : (k : Marks) (t : Tok) (at : ℕ) (arms : List FlowArm) (from :
     FittingBlock k t (block_view (out-FlowArm a).body) (record { stmt = p.stmt; spot = c; ones = m })
 arming_fits k t at arms from i p x a c m e same g =
     let h = arming_at k t at arms from i p x a e g in
-    block_fits_same (λ i. In (table k.around i)) (λ i. In (table k.behind i)) t (block_view (out-FlowArm a).body) p.stmt (images t (rows_view (out-FlowArm a).rows) (at_point from)) (In (many_of m)) (turned (In (many_of m)) (images t (rows_view (out-FlowArm a).rows) (at_point from)) same) h.fits.0
+    block_fits_same (λ i. In (table k.around i)) (λ i. In (table k.following i)) t (block_view (out-FlowArm a).body) p.stmt (images t (rows_view (out-FlowArm a).rows) (at_point from)) (In (many_of m)) (turned (In (many_of m)) (images t (rows_view (out-FlowArm a).rows) (at_point from)) same) h.fits.0
 
 pub arming_more : (k : Marks) (t : Tok) (at : ℕ) (arms : List FlowArm) (from : Point) (i : ℕ) (p b : Point) (x w v y : Option Blame) (r : Judged) (a : FlowArm) → drop i arms ≡ a ∷ drop (i + 1) arms → Arming k t at arms from i p x →
     FirstOfRows t at p.spot (rows_view (out-FlowArm a).rows) (at_point from) w → b.stmt ≡ p.stmt → b.spot ≡ p.spot + length (rows_view (out-FlowArm a).rows) → IsSameOnes (at_point b) (images t (rows_view (out-FlowArm a).rows) (at_point from)) → IsJudgedBlock t (block_view (out-FlowArm a).body) b r → IsEarlier w r.first v → IsEarlier x v y → Arming k t at arms from (i + 1) r.next y
@@ -160,5 +160,5 @@ arming_ends k t at arms from i p x past g =
     let h = subst (λ ss. ArmsGoing k t at (arms_view arms) from (arms_view ss) p x) (drop_all i arms past) g in
     record {
       first = going_ends t x _ _ _ _ h.going (λ q z. z);
-      behind = record { stmt = let a = h.stmts in omega (arith, a); spot = let a = h.spots in omega (arith, a) };
+      following = record { stmt = let a = h.stmts in omega (arith, a); spot = let a = h.spots in omega (arith, a) };
     }

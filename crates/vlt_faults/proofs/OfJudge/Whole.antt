@@ -120,10 +120,10 @@ module _ (s : Block) (h : HeldMap) (over : IsFirstOver All s h None) where
   stock t = stock_of (over.tabled t tt).tables
 
   abbrev notes : Notes
-  notes = record { around = λ i t. read (slot (over.tabled t tt).tables.around i); behind = λ i t. read (slot (over.tabled t tt).tables.behind i) }
+  notes = record { around = λ i t. read (slot (over.tabled t tt).tables.around i); following = λ i t. read (slot (over.tabled t tt).tables.following i) }
 
   reads : IsReadOf notes stock
-  reads = record { around = λ t i. read_just (slot (over.tabled t tt).tables.around i); behind = λ t i. read_just (slot (over.tabled t tt).tables.behind i) }
+  reads = record { around = λ t i. read_just (slot (over.tabled t tt).tables.around i); following = λ t i. read_just (slot (over.tabled t tt).tables.following i) }
 
   none : (t : Tok) → HasFaultBlock t s (Has (h t)) → ⊥
   none t x = let y = some_spot_block s t 0 (Has (h t)) x in over.first y.0 t tt y.1

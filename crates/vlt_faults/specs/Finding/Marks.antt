@@ -8,7 +8,7 @@ use Rattle.vlt_faults.specs.Finding.Ones.{many_of, gap_of}
 
 pub record Marks : Type 0 where
   pub around : List Ones
-  pub behind : List Ones
+  pub following : List Ones
   pub grew : Bool
 
 abbrev pub no_ones : Ones
@@ -21,10 +21,10 @@ abbrev pub at : List Ones → ℕ → Many
 at xs i = many_of (slot xs i)
 
 abbrev pub stock_of : Marks → Stock
-stock_of k = record { around = at k.around; behind = at k.behind }
+stock_of k = record { around = at k.around; following = at k.following }
 
 abbrev pub gap : Marks → ℕ
-gap k = sum_by gap_of k.around + sum_by gap_of k.behind
+gap k = sum_by gap_of k.around + sum_by gap_of k.following
 
 -- nothing was changed, or something grew
 abbrev pub IsGrown : Marks → Marks → Type 0
@@ -32,7 +32,7 @@ IsGrown old new = (new ≡ old) ⊎ (IsTrue new.grew × (gap new < gap old))
 
 pub record Went (old new : Marks) : Type 0 where
   pub around : length new.around ≡ length old.around
-  pub behind : length new.behind ≡ length old.behind
+  pub following : length new.following ≡ length old.following
   pub grown : IsGrown old new
 
 -- the table in a slot took these in
@@ -51,7 +51,7 @@ ForLoop (Some l) n = l < n
 
 pub record HasRoom (k : Marks) (l : Option ℕ) (m : ℕ) : Type 0 where
   pub fits : m ≤ length k.around
-  pub long : length k.behind ≡ length k.around
+  pub long : length k.following ≡ length k.around
   pub few : length k.around < 2 ^ 63
   pub loop : ForLoop l (length k.around)
 

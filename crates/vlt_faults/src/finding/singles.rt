@@ -4,7 +4,7 @@ ghost use Rattle.std.specs.Prelude.{◌≡◌, ◌↔◌, ◌⊎◌, ◌||◌, t
 ghost use Rattle.vlt_core.specs.HeldView.{wanted_of, after_of};
 ghost use Rattle.vlt_core.specs.Found.{One, WantsOne, LeftBy};
 ghost use Rattle.vlt_core_laws.specs.Sweep.{In};
-ghost use Rattle.vlt_faults.specs.Finding.Ones.{many_of, gap_of};
+ghost use Rattle.vlt_faults.specs.Finding.Ones.{many_of};
 
 use crate::finding::ones::Ones;
 use vlt_base::either;

@@ -3,7 +3,6 @@
 ghost use Rattle.std.specs.Prelude.{◌≡◌, ◌+◌, ◌<◌, Some, None, length};
 ghost use Rattle.vlt_core.specs.Flow.{size, size_block, size_stmts, size_arms};
 ghost use Rattle.vlt_core.specs.View.{tok_of};
-ghost use Rattle.vlt_core.specs.HeldView.{toks_of};
 ghost use Rattle.vlt_rows.specs.FlowView.{flow_view, block_view, stmts_view, arms_view, rows_view};
 ghost use Rattle.vlt_core_laws.specs.Sweep.{Swept, SweptBlock, SweptStmts, SweptArms, WayBy, TurnBy, Lands, In, IsReached, IsFoundIn};
 ghost use Rattle.vlt_faults.specs.Finding.Ones.{many_of};
@@ -16,7 +15,7 @@ use crate::finding::tables::Tables;
 use vlt_core::{Row, Tok};
 use vlt_rows::{Flow, FlowArm, FlowBlock, FlowStmt};
 
-/// What comes out of a part, and the number of the statement behind it.
+/// What comes out of a part, and the number of the statement after it.
 #[derive(Clone, Copy)]
 pub struct Came {
     pub ones: Ones,
@@ -24,7 +23,7 @@ pub struct Came {
 }
 
 fn land(kept: &mut Tables, l: Option<usize>, continues: bool, m: Ones)
-    requires long { length kept.old.behind ≡ length kept.old.around }
+    requires long { length kept.old.following ≡ length kept.old.around }
     requires around { ForLoop l (length kept.old.around) }
     ensures lands { Lands l continues (many_of m) (stock_of kept.old) (stock_of kept.new) }
     ensures went { Went kept.old kept.new }
@@ -107,7 +106,7 @@ fn sweep_form(kept: &mut Tables, tok: Tok, form: &Flow, l: Option<usize>, n: usi
     }
 }
 
-/// A way of the choice c: what comes to its end is joined behind the choice.
+/// A way of the choice c: what comes to its end is joined after the choice.
 #[cycle(sweep)]
 fn sweep_way(
     kept: &mut Tables,
@@ -225,7 +224,7 @@ pub fn spread(kept: &mut Tables, tok: Tok, body: &FlowBlock, m: Ones)
     ensures found { IsFoundIn (tok_of tok) (block_view body.now) (In (many_of m))
         (stock_of kept.new) }
     ensures around { length kept.new.around ≡ length kept.old.around }
-    ensures behind { length kept.new.behind ≡ length kept.old.behind }
+    ensures following { length kept.new.following ≡ length kept.old.following }
 {
     loop {
         kept.begin();

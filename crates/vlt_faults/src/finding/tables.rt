@@ -1,9 +1,9 @@
 //! The tables that a sweep keeps.
 
 ghost use Rattle.std.specs.Prelude.{◌≡◌, ◌<◌, ◌≢◌, ◌↔◌, ℕ, IsTrue, length, IfOk, false};
-ghost use Rattle.vlt_core_laws.specs.Sweep.{IntoHead, IntoExit, IsNothing};
-ghost use Rattle.vlt_faults.specs.Finding.Ones.{many_of, gap_of};
-ghost use Rattle.vlt_faults.specs.Finding.Marks.{slot, IsSameParts, IsGrown, IsPut, stock_of, at, Went, IsInto, IsNearer};
+ghost use Rattle.vlt_core_laws.specs.Sweep.{IsNothing};
+ghost use Rattle.vlt_faults.specs.Finding.Ones.{many_of};
+ghost use Rattle.vlt_faults.specs.Finding.Marks.{slot, IsSameParts, IsPut, at, IsInto, IsNearer};
 
 use crate::finding::ones::Ones;
 use crate::finding::singles::{nothing, union};
@@ -14,7 +14,7 @@ use std::marker::Model;
 #[derive(Drop)]
 pub struct Tables {
     around: Vec<Ones>,
-    behind: Vec<Ones>,
+    following: Vec<Ones>,
     grew: bool,
 }
 
@@ -23,7 +23,7 @@ impl Model for Tables {
 
     ghost Value = { Marks };
 
-    ghost view = { λ k. record { around = k.around.items; behind = k.behind.items; grew = k.grew } };
+    ghost view = { λ k. record { around = k.around.items; following = k.following.items; grew = k.grew } };
 }
 
 fn is_same(a: Ones, b: Ones) -> bool
@@ -61,15 +61,15 @@ impl Tables {
     /// Nothing is kept yet.
     pub fn open(alloc: Global, count: usize) -> Result<Tables, AllocError>
         ensures around { IfOk result (λ k. length k.around ≡ count) }
-        ensures behind { IfOk result (λ k. length k.behind ≡ count) }
+        ensures following { IfOk result (λ k. length k.following ≡ count) }
         ensures none { IfOk result (λ k. (i : ℕ) → IsNothing (at k.around i)) }
-        ensures none_behind { IfOk result (λ k. (i : ℕ) → IsNothing (at k.behind i)) }
+        ensures none_after { IfOk result (λ k. (i : ℕ) → IsNothing (at k.following i)) }
     {
         let around = nothings(alloc, count)?;
-        let behind = nothings(alloc, count)?;
+        let following = nothings(alloc, count)?;
         Ok(Tables {
             around,
-            behind,
+            following,
             grew: false,
         })
     }
@@ -77,7 +77,7 @@ impl Tables {
     pub fn join_head(&mut self, n: usize, m: Ones)
         requires { n < length self.old.around }
         ensures put { IsPut n m self.old.around self.new.around self.old.grew self.new.grew }
-        ensures behind { self.new.behind ≡ self.old.behind }
+        ensures following { self.new.following ≡ self.old.following }
     {
         if join_into(&mut self.around[n], m) {
             self.grew = true;
@@ -85,20 +85,20 @@ impl Tables {
     }
 
     pub fn join_exit(&mut self, n: usize, m: Ones)
-        requires { n < length self.old.behind }
-        ensures put { IsPut n m self.old.behind self.new.behind self.old.grew self.new.grew }
+        requires { n < length self.old.following }
+        ensures put { IsPut n m self.old.following self.new.following self.old.grew self.new.grew }
         ensures around { self.new.around ≡ self.old.around }
     {
-        if join_into(&mut self.behind[n], m) {
+        if join_into(&mut self.following[n], m) {
             self.grew = true;
         }
     }
 
     pub fn exit(&self, n: usize) -> Ones
-        requires { n < length self.now.behind }
-        ensures { many_of result ≡ at self.now.behind n }
+        requires { n < length self.now.following }
+        ensures { many_of result ≡ at self.now.following n }
     {
-        self.behind[n]
+        self.following[n]
     }
 
     pub fn head(&self, n: usize) -> Ones
@@ -111,7 +111,7 @@ impl Tables {
     /// A new sweep begins.
     pub fn begin(&mut self)
         ensures around { self.new.around ≡ self.old.around }
-        ensures behind { self.new.behind ≡ self.old.behind }
+        ensures following { self.new.following ≡ self.old.following }
         ensures fresh { self.new.grew ≡ false }
     {
         self.grew = false;

@@ -13,7 +13,7 @@ pub enum Class {
     /// The head of a loop.
     Head,
     Row,
-    /// Behind a loop or a choice.
+    /// Following a loop or a choice.
     Join,
 }
 

@@ -145,8 +145,8 @@ fn extent_of_form(form: &Flow) -> Extent
             let own = with_rows(0, rows.as_slice());
             let inside = extent_of_block(body);
             let rest = extent_of_rows(after.as_slice());
-            let behind = both(inside, rest);
-            both(own, behind)
+            let following = both(inside, rest);
+            both(own, following)
         }
         Flow::Return { rows } => with_rows(0, rows.as_slice()),
         Flow::Jump { continues, left } => {

@@ -3,12 +3,9 @@
 ghost use Rattle.std.specs.Prelude.{◌≡◌, ◌<◌, ◌+◌, ◌^◌, length, None};
 ghost use Rattle.vlt_core.specs.Flow.{step, choose, loop, switch, focus, size, size_block, size_stmts, size_arms};
 ghost use Rattle.vlt_core.specs.Faults.{spots, spots_block, spots_stmts, spots_arms};
-ghost use Rattle.vlt_core.specs.Found.{out, out_block, out_stmts, to_next};
 ghost use Rattle.vlt_core.specs.View.{tok_of};
 ghost use Rattle.vlt_rows.specs.FlowView.{flow_view, block_view, stmts_view, arms_view, rows_view};
-ghost use Rattle.vlt_core_laws.specs.Sweep.{In};
-ghost use Rattle.vlt_faults.specs.Finding.Ones.{many_of};
-ghost use Rattle.vlt_faults.specs.Judge.Judging.{HasRoom, IsBehindAll, IsJudged, IsJudgedBlock, IsJudgedStmts, IsJudgedArms, Fitting, FittingBlock, FittingStmts, FittingArms};
+ghost use Rattle.vlt_faults.specs.Judge.Judging.{HasRoom, IsAfterAll, IsJudged, IsJudgedBlock, IsJudgedStmts, IsJudgedArms, Fitting, FittingBlock, FittingStmts, FittingArms};
 
 use crate::finding::{Ones, Tables, nothing};
 use crate::judge::blame::{Blame, Class, earlier};
@@ -62,20 +59,20 @@ fn judge_form(kept: &Tables, tok: Tok, form: &Flow, at: u32, from: Point) -> Jud
         }
         Flow::Return { rows } => {
             let p = judge_rows(tok, rows.as_slice(), at, from.spot, from.ones);
-            behind_all(p.first, rows.len(), from)
+            after_all(p.first, rows.len(), from)
         }
         Flow::Jump { continues, left } => {
             let p = judge_gone(tok, left.as_slice(), at, from.spot, from.ones);
-            behind_all(p.first, left.len(), from)
+            after_all(p.first, left.len(), from)
         }
     }
 }
 
-/// Behind so many rows of a statement that nothing passes.
-fn behind_all(first: Option<Blame>, rows: usize, from: Point) -> Judged
+/// Following so many rows of a statement that nothing passes.
+fn after_all(first: Option<Blame>, rows: usize, from: Point) -> Judged
     requires stmts { from.stmt + 1 < 2 ^ 63 }
     requires spots { from.spot + rows < 2 ^ 63 }
-    ensures { IsBehindAll first rows from result }
+    ensures { IsAfterAll first rows from result }
 {
     Judged {
         first,
@@ -143,14 +140,14 @@ fn judge_if(
             ..a.next
         },
     );
-    let behind = kept.exit(from.stmt);
-    let join = judge_join(tok, else_block.end, Class::Join, b.next.spot, behind);
+    let following = kept.exit(from.stmt);
+    let join = judge_join(tok, else_block.end, Class::Join, b.next.spot, following);
     Judged {
         first: earlier(p.first, earlier(a.first, earlier(b.first, join))),
         next: Point {
             stmt: b.next.stmt,
             spot: b.next.spot + 1,
-            ones: behind,
+            ones: following,
         },
     }
 }
@@ -184,14 +181,14 @@ fn judge_while(
             ones: p.ones,
         },
     );
-    let behind = kept.exit(from.stmt);
-    let join = judge_join(tok, body.end, Class::Join, s.next.spot, behind);
+    let following = kept.exit(from.stmt);
+    let join = judge_join(tok, body.end, Class::Join, s.next.spot, following);
     Judged {
         first: earlier(head, earlier(p.first, earlier(s.first, join))),
         next: Point {
             stmt: s.next.stmt,
             spot: s.next.spot + 1,
-            ones: behind,
+            ones: following,
         },
     }
 }
@@ -226,14 +223,14 @@ fn judge_switch(
             ones: p.ones,
         },
     );
-    let behind = kept.exit(from.stmt);
-    let join = judge_join(tok, end, Class::Join, s.next.spot, behind);
+    let following = kept.exit(from.stmt);
+    let join = judge_join(tok, end, Class::Join, s.next.spot, following);
     Judged {
         first: earlier(p.first, earlier(s.first, join)),
         next: Point {
             stmt: s.next.stmt,
             spot: s.next.spot + 1,
-            ones: behind,
+            ones: following,
         },
     }
 }

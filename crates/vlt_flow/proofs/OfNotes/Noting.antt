@@ -1,4 +1,4 @@
--- Notes that come behind others.
+-- Notes that come after others.
 use Rattle.std.proofs.Common.{◌≡◌, ◌<◌, ◌≤◌, ◌+◌, ℕ, Bool, true, false, ◌&&◌, ◌||◌, List, [], ◌∷◌, ◌++◌, map, length, drop, drop-cons, add-one, get_or, suc, if◌then◌else◌, Result, Ok, Err, OnOk, IfOk, inl, inr, ⊎_elim, true≢false, refl, sym, ap, ◌∙◌, subst, arith}
 use Rattle.std.proofs.lemmas.List.{append-nil, append_assoc, drop_all}
 use Rattle.vlt_core.specs.Flow.{next, arm, passes, passes_block, passes_stmts, passes_arms, size, size_block, size_stmts, size_arms}
@@ -42,7 +42,7 @@ noted_more k xs ys a b c p q = record {
 
 -- ---- statements and arms, one after another
 
--- those behind come behind
+-- those after come after
 pub record Going (k : Marks) (old : List DN.Note) (all : List Noted) (now : List DN.Note) (rest : List Noted) : Type 0 where
   pub so_far : List Noted
   pub noted : IsNoted k so_far old now
@@ -72,7 +72,7 @@ pub listing_first : (k : Marks) (stmts : List FlowStmt) (n : ℕ) (old : List DN
 listing_first k stmts n old = record { size = refl; low = omega arith; going = going_first k old (noted_stmts n (stmts_view stmts)) }
 
 pub long_less : (k : Marks) (n m : ℕ) → IsLong k n → m ≤ n → IsLong k m
-long_less k n m l p = let a = l.around in let b = l.behind in let c = l.few in record { around = omega (arith, a, p); behind = omega (arith, b, p); few = omega (arith, c, p) }
+long_less k n m l p = let a = l.around in let b = l.following in let c = l.few in record { around = omega (arith, a, p); following = omega (arith, b, p); few = omega (arith, c, p) }
 
 pub listing_long : (k : Marks) (stmts : List FlowStmt) (n : ℕ) (old : List DN.Note) (i at : ℕ) (now : List DN.Note) (s : FlowStmt) → drop i stmts ≡ s ∷ drop (i + 1) stmts → IsLong k (n + size_stmts (stmts_view stmts)) → Listing k stmts n old i at now → IsLong k (at + size (flow_view s.flow))
 listing_long k stmts n old i at now s e l g = let split = ap size_stmts (stmts_split stmts i s e) in let a = g.size in long_less k _ _ l (omega (arith, a, split))
@@ -167,15 +167,15 @@ arms_none arms i past all = sym (all ∙ ap (λ l. passes_arms (arms_view l)) (d
 
 -- ---- one note
 
-pub noted_loop : (k : Marks) (n : ℕ) (old new : List DN.Note) (stmt : StmtId) (around exit : TokMap) → new ≡ old ++ V.Loop stmt around exit ∷ [] → stmt.0 ≡ n → IsHeld (slot k.around n) (map_in around) → IsHeld (slot k.behind n) (map_in exit) → IsNoted k (a_loop n ∷ []) old new
+pub noted_loop : (k : Marks) (n : ℕ) (old new : List DN.Note) (stmt : StmtId) (around exit : TokMap) → new ≡ old ++ V.Loop stmt around exit ∷ [] → stmt.0 ≡ n → IsHeld (slot k.around n) (map_in around) → IsHeld (slot k.following n) (map_in exit) → IsNoted k (a_loop n ∷ []) old new
 noted_loop k n old new stmt around exit e is a b =
     noted_one k (a_loop n) old new (V.Loop stmt around exit) e (ap a_loop is)
-    (subst (λ i. IsHeld (slot k.around i) (map_in around)) (sym is) a, subst (λ i. IsHeld (slot k.behind i) (map_in exit)) (sym is) b)
+    (subst (λ i. IsHeld (slot k.around i) (map_in around)) (sym is) a, subst (λ i. IsHeld (slot k.following i) (map_in exit)) (sym is) b)
 
-pub noted_join : (k : Marks) (n : ℕ) (p : Bool) (old new : List DN.Note) (stmt : StmtId) (m : TokMap) → p ≡ true → new ≡ old ++ V.Join stmt m ∷ [] → stmt.0 ≡ n → IsHeld (slot k.behind n) (map_in m) → IsNoted k (if p then a_join n ∷ [] else []) old new
+pub noted_join : (k : Marks) (n : ℕ) (p : Bool) (old new : List DN.Note) (stmt : StmtId) (m : TokMap) → p ≡ true → new ≡ old ++ V.Join stmt m ∷ [] → stmt.0 ≡ n → IsHeld (slot k.following n) (map_in m) → IsNoted k (if p then a_join n ∷ [] else []) old new
 noted_join k n p old new stmt m has e is b =
     subst (λ q. IsNoted k (if q then a_join n ∷ [] else []) old new) (sym has)
-    (noted_one k (a_join n) old new (V.Join stmt m) e (ap a_join is) (subst (λ i. IsHeld (slot k.behind i) (map_in m)) (sym is) b))
+    (noted_one k (a_join n) old new (V.Join stmt m) e (ap a_join is) (subst (λ i. IsHeld (slot k.following i) (map_in m)) (sym is) b))
 
 pub noted_no_join : (k : Marks) (n : ℕ) (p : Bool) (old : List DN.Note) → p ≡ false → IsNoted k (if p then a_join n ∷ [] else []) old old
 noted_no_join k n p old none = subst (λ q. IsNoted k (if q then a_join n ∷ [] else []) old old) (sym none) (noted_none k old)

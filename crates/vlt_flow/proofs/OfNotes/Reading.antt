@@ -7,7 +7,7 @@ use Rattle.vlt_core.specs.Flow.{Flow, step, choose, loop, switch, scope, focus, 
 use Rattle.vlt_core.specs.Bodies.{body_flow}
 use Rattle.vlt_core.specs.Derives.{start_map}
 use Rattle.vlt_core.specs.Local.{Notes, IsLocalBlock}
-use Rattle.vlt_core.specs.Least.{Note, at_loop, at_join, Noted, a_loop, a_join, noted_by, noted, noted_block, noted_stmts, noted_arms, around_in, behind_in, notes_in, LieBelow, IsLeast}
+use Rattle.vlt_core.specs.Least.{Note, at_loop, at_join, Noted, a_loop, a_join, noted_by, noted, noted_block, noted_stmts, noted_arms, around_in, after_in, notes_in, LieBelow, IsLeast}
 use Rattle.vlt_keyset.specs.Held.{Statuses}
 use Rattle.vlt_flow.specs.declared.errors.Stop.{Stop}
 use Rattle.vlt_flow.specs.declared.errors.Stop.TheVariants.{Refused}
@@ -51,7 +51,7 @@ number_other : (n m : ℕ) → (m == n) ≡ false → n ≡ m → ⊥
 number_other n m e f = grind (arith, nat_tests)
 
 module _ (k : Marks) where
-  -- a note of this number has the map, or those behind it
+  -- a note of this number has the map, or those after it
   around_at : (m n : ℕ) (x y : HeldMap) → IsHeld (slot k.around m) x → ((m == n) ≡ false → (notes_of k).around n ≡ y) → (notes_of k).around n ≡ (if m == n then x else y)
   around_at m n x y held rest = by (m == n) refl
     where
@@ -59,11 +59,11 @@ module _ (k : Marks) where
       by true e = ap (λ i. map_in (slot k.around i)) (sym (number_same n m e)) ∙ held_is (slot k.around m) x held
       by false e = rest e
 
-  behind_at : (m n : ℕ) (x y : HeldMap) → IsHeld (slot k.behind m) x → ((m == n) ≡ false → (notes_of k).behind n ≡ y) → (notes_of k).behind n ≡ (if m == n then x else y)
-  behind_at m n x y held rest = by (m == n) refl
+  after_at : (m n : ℕ) (x y : HeldMap) → IsHeld (slot k.following m) x → ((m == n) ≡ false → (notes_of k).following n ≡ y) → (notes_of k).following n ≡ (if m == n then x else y)
+  after_at m n x y held rest = by (m == n) refl
     where
-      by : (b : Bool) → (m == n) ≡ b → map_in (slot k.behind n) ≡ (if b then x else y)
-      by true e = ap (λ i. map_in (slot k.behind i)) (sym (number_same n m e)) ∙ held_is (slot k.behind m) x held
+      by : (b : Bool) → (m == n) ≡ b → map_in (slot k.following n) ≡ (if b then x else y)
+      by true e = ap (λ i. map_in (slot k.following i)) (sym (number_same n m e)) ∙ held_is (slot k.following m) x held
       by false e = rest e
 
   around_read : (notes : List Note) (n : ℕ) → AreRead k notes → Has (a_loop n) (map noted_by notes) → (notes_of k).around n ≡ around_in notes n
@@ -72,43 +72,43 @@ module _ (k : Marks) where
       around_at m n around (around_in notes n) r.0.0 (λ e. around_read notes n r.1 (⊎_elim (λ q. absurd (number_other n m e (loop_same n m q))) (λ q. q) h))
   around_read (at_join m x ∷ notes) n r h = around_read notes n r.1 (⊎_elim (λ q. absurd (not_same n m q)) (λ q. q) h)
 
-  behind_loop : (notes : List Note) (n : ℕ) → AreRead k notes → Has (a_loop n) (map noted_by notes) → (notes_of k).behind n ≡ behind_in notes n
-  behind_loop [] n r h = absurd h
-  behind_loop (at_loop m around exit ∷ notes) n r h =
-      behind_at m n exit (behind_in notes n) r.0.1 (λ e. behind_loop notes n r.1 (⊎_elim (λ q. absurd (number_other n m e (loop_same n m q))) (λ q. q) h))
-  behind_loop (at_join m x ∷ notes) n r h =
-      behind_at m n x (behind_in notes n) r.0 (λ e. behind_loop notes n r.1 (⊎_elim (λ q. absurd (not_same n m q)) (λ q. q) h))
+  after_loop : (notes : List Note) (n : ℕ) → AreRead k notes → Has (a_loop n) (map noted_by notes) → (notes_of k).following n ≡ after_in notes n
+  after_loop [] n r h = absurd h
+  after_loop (at_loop m around exit ∷ notes) n r h =
+      after_at m n exit (after_in notes n) r.0.1 (λ e. after_loop notes n r.1 (⊎_elim (λ q. absurd (number_other n m e (loop_same n m q))) (λ q. q) h))
+  after_loop (at_join m x ∷ notes) n r h =
+      after_at m n x (after_in notes n) r.0 (λ e. after_loop notes n r.1 (⊎_elim (λ q. absurd (not_same n m q)) (λ q. q) h))
 
-  behind_join : (notes : List Note) (n : ℕ) → AreRead k notes → Has (a_join n) (map noted_by notes) → (notes_of k).behind n ≡ behind_in notes n
-  behind_join [] n r h = absurd h
-  behind_join (at_loop m around exit ∷ notes) n r h =
-      behind_at m n exit (behind_in notes n) r.0.1 (λ e. behind_join notes n r.1 (⊎_elim (λ q. absurd (not_same m n (sym q))) (λ q. q) h))
-  behind_join (at_join m x ∷ notes) n r h =
-      behind_at m n x (behind_in notes n) r.0 (λ e. behind_join notes n r.1 (⊎_elim (λ q. absurd (number_other n m e (join_same n m q))) (λ q. q) h))
+  after_join : (notes : List Note) (n : ℕ) → AreRead k notes → Has (a_join n) (map noted_by notes) → (notes_of k).following n ≡ after_in notes n
+  after_join [] n r h = absurd h
+  after_join (at_loop m around exit ∷ notes) n r h =
+      after_at m n exit (after_in notes n) r.0.1 (λ e. after_join notes n r.1 (⊎_elim (λ q. absurd (not_same m n (sym q))) (λ q. q) h))
+  after_join (at_join m x ∷ notes) n r h =
+      after_at m n x (after_in notes n) r.0 (λ e. after_join notes n r.1 (⊎_elim (λ q. absurd (number_other n m e (join_same n m q))) (λ q. q) h))
 
 -- ---- the maps of all noted statements are the same
 
 -- what is so of the statements of a list
 record AreAlike (a b : Notes) (xs : List Noted) : Type 0 where
   pub around : (n : ℕ) → Has (a_loop n) xs → a.around n ≡ b.around n
-  pub behind : (n : ℕ) → Has (a_loop n) xs → a.behind n ≡ b.behind n
-  pub join : (n : ℕ) → Has (a_join n) xs → a.behind n ≡ b.behind n
+  pub following : (n : ℕ) → Has (a_loop n) xs → a.following n ≡ b.following n
+  pub join : (n : ℕ) → Has (a_join n) xs → a.following n ≡ b.following n
 
 alike_left : (a b : Notes) (xs ys : List Noted) → AreAlike a b (xs ++ ys) → AreAlike a b xs
 alike_left a b xs ys e = record {
   around = λ n h. e.around n (has_left (a_loop n) xs ys h);
-  behind = λ n h. e.behind n (has_left (a_loop n) xs ys h);
+  following = λ n h. e.following n (has_left (a_loop n) xs ys h);
   join = λ n h. e.join n (has_left (a_join n) xs ys h);
 }
 
 alike_right : (a b : Notes) (xs ys : List Noted) → AreAlike a b (xs ++ ys) → AreAlike a b ys
 alike_right a b xs ys e = record {
   around = λ n h. e.around n (has_right (a_loop n) xs ys h);
-  behind = λ n h. e.behind n (has_right (a_loop n) xs ys h);
+  following = λ n h. e.following n (has_right (a_loop n) xs ys h);
   join = λ n h. e.join n (has_right (a_join n) xs ys h);
 }
 
-own_join : (a b : Notes) (n : ℕ) (p : Bool) → AreAlike a b (if p then a_join n ∷ [] else []) → p ≡ true → a.behind n ≡ b.behind n
+own_join : (a b : Notes) (n : ℕ) (p : Bool) → AreAlike a b (if p then a_join n ∷ [] else []) → p ≡ true → a.following n ≡ b.following n
 own_join a b n true e q = e.join n (inl refl)
 own_join a b n false e q = absurd (never q)
   where
@@ -124,7 +124,7 @@ mutual
         own_join a b n (passes_block s || passes_block t) (alike_left a b own (noted_block (n + 1) s) front),
         (same_noted_block s a b (n + 1) (alike_right a b own (noted_block (n + 1) s) front), same_noted_block t a b (n + 1 + size_block s) (alike_right a b (own ++ noted_block (n + 1) s) (noted_block (n + 1 + size_block s) t) e)),
       )
-  same_noted (loop rs s) a b n e = (e.around n (inl refl), (e.behind n (inl refl), same_noted_block s a b (n + 1) (alike_right a b (a_loop n ∷ []) (noted_block (n + 1) s) e)))
+  same_noted (loop rs s) a b n e = (e.around n (inl refl), (e.following n (inl refl), same_noted_block s a b (n + 1) (alike_right a b (a_loop n ∷ []) (noted_block (n + 1) s) e)))
   same_noted (switch rs arms end) a b n e =
       let own = if passes_arms arms then a_join n ∷ [] else [] in
       (own_join a b n (passes_arms arms) (alike_left a b own (noted_arms (n + 1) arms) e), same_noted_arms arms a b (n + 1) (alike_right a b own (noted_arms (n + 1) arms) e))
@@ -152,12 +152,12 @@ held_below (Some x) m u h a = subst (λ y. IsBelow y u) (sym h) a
 
 lie_below : (k : Marks) (a : Notes) (notes : List Note) → AreRead k notes → IsUnder k a → LieBelow a notes
 lie_below k a [] r u = tt
-lie_below k a (at_loop n around exit ∷ notes) r u = ((held_below (slot k.around n) around (a.around n) r.0.0 (u.around n), held_below (slot k.behind n) exit (a.behind n) r.0.1 (u.behind n)), lie_below k a notes r.1 u)
-lie_below k a (at_join n m ∷ notes) r u = (held_below (slot k.behind n) m (a.behind n) r.0 (u.behind n), lie_below k a notes r.1 u)
+lie_below k a (at_loop n around exit ∷ notes) r u = ((held_below (slot k.around n) around (a.around n) r.0.0 (u.around n), held_below (slot k.following n) exit (a.following n) r.0.1 (u.following n)), lie_below k a notes r.1 u)
+lie_below k a (at_join n m ∷ notes) r u = (held_below (slot k.following n) m (a.following n) r.0 (u.following n), lie_below k a notes r.1 u)
 
 pub least_notes : (p : Program) (f : Func) (s : Block) (h : HeldMap) (k : Marks) (notes : List Note) → s ≡ body_flow p f → h ≡ start_map p f → IsLeastLocal s h k → map noted_by notes ≡ noted_block 0 s → AreRead k notes → IsLeast p f notes
 least_notes p f s h k notes flow start q names r =
-    let alike : AreAlike (notes_of k) (notes_in notes) (noted_block 0 s) = subst (AreAlike (notes_of k) (notes_in notes)) names (record { around = λ n. around_read k notes n r; behind = λ n. behind_loop k notes n r; join = λ n. behind_join k notes n r }) in
+    let alike : AreAlike (notes_of k) (notes_in notes) (noted_block 0 s) = subst (AreAlike (notes_of k) (notes_in notes)) names (record { around = λ n. around_read k notes n r; following = λ n. after_loop k notes n r; join = λ n. after_join k notes n r }) in
     let local = local_block_alike s (notes_of k) (notes_in notes) None 0 h (same_noted_block s (notes_of k) (notes_in notes) 0 alike) tt q.local in
     record {
       complete = subst (λ b. map noted_by notes ≡ noted_block 0 b) flow names;

@@ -18,8 +18,8 @@ IsHeld (Some h) m = m ≡ map_of h
 
 -- the note has the maps that are kept
 abbrev pub IsRead : Marks → Note → Type 0
-IsRead k (at_loop n around exit) = IsHeld (slot k.around n) around × IsHeld (slot k.behind n) exit
-IsRead k (at_join n m) = IsHeld (slot k.behind n) m
+IsRead k (at_loop n around exit) = IsHeld (slot k.around n) around × IsHeld (slot k.following n) exit
+IsRead k (at_join n m) = IsHeld (slot k.following n) m
 
 abbrev pub AreRead : Marks → List Note → Type 0
 AreRead k [] = Unit {0}
@@ -45,8 +45,8 @@ HasNoList keys vars (Some h) = HasOnly keys vars (map_of h) → ⊥
 
 -- the statement has no number of 32 bits, or a map of it has no list
 abbrev pub HasNoNote : (keys vars : ℕ) → Marks → Noted → Type 0
-HasNoNote keys vars k (a_loop n) = (2 ^ 32 ≤ n) ⊎ (HasNoList keys vars (slot k.around n) ⊎ HasNoList keys vars (slot k.behind n))
-HasNoNote keys vars k (a_join n) = (2 ^ 32 ≤ n) ⊎ HasNoList keys vars (slot k.behind n)
+HasNoNote keys vars k (a_loop n) = (2 ^ 32 ≤ n) ⊎ (HasNoList keys vars (slot k.around n) ⊎ HasNoList keys vars (slot k.following n))
+HasNoNote keys vars k (a_join n) = (2 ^ 32 ≤ n) ⊎ HasNoList keys vars (slot k.following n)
 
 -- some of these statements has no note
 abbrev pub LacksNote : (keys vars : ℕ) → Marks → List Noted → Type 0
@@ -73,5 +73,5 @@ pub record IsNoted (k : Marks) (xs : List Noted) (old new : List DN.Note) : Type
 -- the tables have so many slots at least
 pub record IsLong (k : Marks) (n : ℕ) : Type 0 where
   pub around : n ≤ length k.around
-  pub behind : n ≤ length k.behind
+  pub following : n ≤ length k.following
   pub few : n < 2 ^ 63

@@ -40,13 +40,14 @@ fn around(alloc: Global, kept: &Kept, n: usize, counts: TokenCounts) -> Result<T
     }
 }
 
-fn behind(alloc: Global, kept: &Kept, n: usize, counts: TokenCounts) -> Result<TokMap, NoteError>
+fn following(alloc: Global, kept: &Kept, n: usize, counts: TokenCounts) -> Result<TokMap, NoteError>
     requires { IsLong kept.now (n + 1) }
-    ensures held { IfOk result (λ m. IsHeld (slot kept.now.behind n) (map_in m)) }
+    ensures held { IfOk result (λ m. IsHeld (slot kept.now.following n) (map_in m)) }
     ensures order { IfOk result (λ m. IsListed counts.keys counts.vars m.pairs) }
-    ensures unfit { IfUnlisted result (HasNoList counts.keys counts.vars (slot kept.now.behind n)) }
+    ensures unfit { IfUnlisted result
+        (HasNoList counts.keys counts.vars (slot kept.now.following n)) }
 {
-    match kept.behind(n) {
+    match kept.following(n) {
         Some(held) => listed(alloc, held, counts),
         None => Err(NoteError::Unfit),
     }
@@ -68,7 +69,7 @@ fn note_loop(
 {
     let stmt = stmt_id(n)?;
     let around = around(alloc, kept, n, counts)?;
-    let exit = behind(alloc, kept, n, counts)?;
+    let exit = following(alloc, kept, n, counts)?;
     Ok(notes.push(Note::Loop { stmt, around, exit })?)
 }
 
@@ -93,7 +94,7 @@ fn note_join(
         return Ok(());
     }
     let stmt = stmt_id(n)?;
-    let map = behind(alloc, kept, n, counts)?;
+    let map = following(alloc, kept, n, counts)?;
     Ok(notes.push(Note::Join { stmt, map })?)
 }
 

@@ -134,7 +134,7 @@ dropped_all (y ∷ ys) (suc i) e = dropped_all ys i e
 
 module _ (r : Setup) (calls : List HostCall) (first : World) (index : ℕ) (m : HostMachine) (s : Supply) (before now : Outside)
     (x : Stands r calls first index m s before now) where
-  -- the next call, with the others behind it
+  -- the next call, with the others after it
   asks : (c : HostCall) → slice_get calls index ≡ Some c →
       after_calls r 1 calls first ≡ after_text x.text (asked r c x.world (suc index) (λ w. after_calls r (suc (suc index)) (drop (suc index) calls) w))
   asks c at = x.comes ∙ ap (λ cs. after_text x.text (after_calls r (suc index) cs x.world)) (dropped calls index c at)

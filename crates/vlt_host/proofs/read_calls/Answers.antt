@@ -1,7 +1,7 @@
 use Rattle.std.proofs.Common.{◌≡◌, ◌+◌, ◌<◌, ◌≤◌, ◌++◌, ◌∷◌, [], length, Err, ap, sym, ◌∙◌, rules, arith}
 use Rattle.std.proofs.lemmas.Bool.Decides.{nat_tests}
 use Rattle.vlt_host.specs.declared.error.CallsError.TheVariants.{Bad}
-use Rattle.vlt_numbers.proofs.Reading.{line_in, behind_line}
+use Rattle.vlt_numbers.proofs.Reading.{line_in, after_line}
 use Rattle.vlt_host.proofs.Files.{reads_more, stops}
 use Rattle.vlt_host.proofs.read_calls.Goals as goal
 
@@ -17,7 +17,7 @@ returns-in_err-push_call-clause-bad c = λ line e.
 pub loop-rest-preserved : goal.loop-rest-preserved
 loop-rest-preserved c =
     let first : c.cut.result.0.now ≡ line_in c.loop-rest.rest.now = c.cut.ensures.before in
-    let after : c.cut.result.1.now ≡ behind_line c.loop-rest.rest.now = c.cut.ensures.behind in
+    let after : c.cut.result.1.now ≡ after_line c.loop-rest.rest.now = c.cut.ensures.following in
     let more : 0 < length c.loop-rest.rest.now = grind (arith, nat_tests) in
     let pushed = rw first at c.in_ok-push_call.ensures.pushed in
     let few : length c.push_call.new.names.items + length c.push_call.new.args.items ≤ length c.loop-rest.names.items + length c.loop-rest.args.items + length c.cut.result.0.now = search rules in

@@ -6,7 +6,6 @@ ghost use Rattle.vlt_base.specs.Limits.{limit_of};
 ghost use Rattle.vlt_core.specs.View.{program_of};
 ghost use Rattle.vlt_core.specs.Core.{Func};
 ghost use Rattle.vlt_meaning.specs.World.{Object, World};
-ghost use Rattle.vlt_steps.specs.Writing.{Outside};
 ghost use Rattle.vlt_host_meaning.specs.Tables.{argument_of};
 ghost use Rattle.vlt_host_meaning.specs.HostFrame.{held_objects};
 ghost use Rattle.vlt_host_meaning.specs.OneCall.{host_calls};

@@ -1,13 +1,12 @@
 //! The last line of a run for a host: what the host holds.
 
-ghost use Rattle.std.specs.Prelude.{◌≡◌, ◌≤◌, ◌++◌, List, codes, pos, OnOk, OnErr};
+ghost use Rattle.std.specs.Prelude.{◌≡◌, ◌≤◌, ◌++◌, List, OnOk, OnErr};
 ghost use Rattle.std.specs.Option.{option_map};
-ghost use Rattle.std.specs.Fmt.{signed_decimal};
 ghost use Rattle.vlt_io.specs.Outside.{Rose, Grew, GrewByPart};
 ghost use Rattle.vlt_core.specs.View.{program_of};
 ghost use Rattle.vlt_meaning.specs.World.{Object, object_text};
 ghost use Rattle.vlt_host_meaning.specs.Lines.{held_line, state_text};
-ghost use Rattle.vlt_host.specs.Machine.HostMachine.{IsHosted, ShowsObjects, seen_of, seen};
+ghost use Rattle.vlt_host.specs.Machine.HostMachine.{IsHosted, ShowsObjects};
 ghost use Rattle.vlt_host.specs.Runs.HeldLine.{named_state};
 
 use crate::machine::{HeldObject, HostMachine};
@@ -31,7 +30,7 @@ fn state_name(program: &Program, type_id: TypeId, state: u8) -> Option<&[u8]>
     Some(name.as_slice())
 }
 
-/// The number of an object, from 1, behind a blank and `#`; and its state behind `@`, where its type has states.
+/// The number of an object, from 1, after a blank and `#`; and its state after `@`, where its type has states.
 ///
 /// # Errors
 ///

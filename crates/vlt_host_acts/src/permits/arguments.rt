@@ -1,11 +1,11 @@
 //! The objects that arguments give for keys.
 
-ghost use Rattle.std.specs.Prelude.{◌≡◌, ◌-◌, map};
+ghost use Rattle.std.specs.Prelude.{◌≡◌, ◌-◌};
 ghost use Rattle.std.specs.List.{list_all};
 ghost use Rattle.vlt_core.specs.View.{ty_of};
 ghost use Rattle.vlt_host_meaning.specs.Tables.{argument_of};
 ghost use Rattle.vlt_host_meaning.specs.Permitted.{argument_binding, object_of_key, is_that_object};
-ghost use Rattle.vlt_host_acts.specs.Permits.Arguments.{types_in, bindings_in};
+ghost use Rattle.vlt_host_acts.specs.Permits.Arguments.{bindings_in};
 
 use vlt_base::KeyId;
 use vlt_core::{Ty, VarDecl};

@@ -5,7 +5,6 @@ ghost use Rattle.std.specs.List.{list_all, list_any};
 ghost use Rattle.vlt_core.specs.View.{program_of, func_of, ty_of, var_of, entry_of};
 ghost use Rattle.vlt_core.specs.KindedHeads.{parameters_of};
 ghost use Rattle.vlt_core.specs.Lookups as lookups;
-ghost use Rattle.vlt_meaning.specs.Calls.{is_new_key};
 ghost use Rattle.vlt_meaning.specs.Externals.{is_given};
 ghost use Rattle.vlt_host_meaning.specs.EntryFunctions.{is_host_type, gives_new_object, is_host_result, is_entry_function};
 

@@ -2,7 +2,6 @@
 
 ghost use Rattle.std.specs.Prelude.{◌≡◌, ◌&&◌, List, map, filter, true};
 ghost use Rattle.std.specs.List.{list_all, list_any};
-ghost use Rattle.vlt_base.specs.States.{has_state};
 ghost use Rattle.vlt_core.specs.Core.{States};
 ghost use Rattle.vlt_core.specs.View.{program_of, func_of, ty_of, entry_of};
 ghost use Rattle.vlt_core.specs.HeldView.{IsSetOrNone};

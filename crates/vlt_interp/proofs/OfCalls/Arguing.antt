@@ -86,7 +86,7 @@ operands_beside p f (o ∷ os) frame w =
     then_beside frame w (operand_got p f o frame w) (λ a frame w. then_got (operands_got p f os frame w) (λ rest frame w. got (a ∷ rest) frame w)) (operand_beside p f o frame w) (λ a after v.
     then_beside after v (operands_got p f os after v) (λ rest frame w. got (a ∷ rest) frame w) (operands_beside p f os after v) (λ rest next u. beside_same next u))
 
--- ---- the arguments stand behind the frame
+-- ---- the arguments stand after the frame
 
 module _ (rules : Rules) (old : Run) (values : Values) (grown : IsGrown old.values values) (r : Result (Unit {0}) TrapKind) (os : List Operand) (pushed : (c : Seen old.heap old.values) (w : World) → w.objects ≡ c.objects → ArePushed c.items old.values values r (operands_got c.program c.func os c.frame w)) where
   abbrev pub mid : Run

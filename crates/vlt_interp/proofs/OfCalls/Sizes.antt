@@ -60,7 +60,7 @@ module _ (p : Program) (g : Func) (of : IsOf p g) where
         let b = slots_at r.values.width in
         omega (arith, a, b)
 
-    -- for a value more behind the arguments
+    -- for a value more after the arguments
     pub value_room : length r.values.slots.items ≤ depth * frame_slots p r.values.width + g.params * r.values.width → length r.values.slots.items + r.values.width ≤ vec_capacity r.values.slots
     value_room values =
         let a = args_slots in

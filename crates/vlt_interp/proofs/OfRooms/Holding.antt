@@ -44,7 +44,7 @@ fields_held p most width n e few is = record {
       omega (arith, b, is);
 }
 
--- the operands of a value and of an object stand behind the frames
+-- the operands of a value and of an object stand after the frames
 pub frames_held : (p : Program) (depth width frame most operands n : ℕ) → frame ≡ frame_slots p width → most ≡ greatest (λ (t : TypeDecl). length (fields_in (Some t))) p.types
     → operands ≡ max most width * width → n ≡ (depth + 1) * frame + operands → HoldsFrames p depth width n
 frames_held p depth width frame most operands n f e o is =

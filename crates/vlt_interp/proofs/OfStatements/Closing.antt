@@ -40,22 +40,22 @@ module _ (s : Setup) (r : Run) (b : Outside) (c : Conf) (q : ShowsWith (Closing 
   next = next_is q.items r.values r.values.base r.depth (tasks_left r) c.tasks q.shown
 
   -- the run without the task
-  behind : (x : Step) → c.step ≡ x → ShowsConf r (at c.func next.rest x)
-  behind x e = record { items = q.items; holds = q.holds; func = q.func; shown = next.left; step = subst (ShowsStep q.items r c.func r.at) e q.step }
+  following : (x : Step) → c.step ≡ x → ShowsConf r (at c.func next.rest x)
+  following x e = record { items = q.items; holds = q.holds; func = q.func; shown = next.left; step = subst (ShowsStep q.items r c.func r.at) e q.step }
 
   closed : (x : Step) → c.step ≡ x → ShowsStep q.items r c.func r.at x → CameTo (world_in x) b b None r (at c.func next.rest (left_block next.bound x)) (left_block next.bound x)
   unfolding left_block where_so
   closed (goes frame w) e h = by (are_unused next.bound frame w)
     where
       by : (t : Bool) → CameTo w b b None r (at c.func next.rest (where_so t left_behind None w (λ w. goes frame w))) (where_so t left_behind None w (λ w. goes frame w))
-      by true = record { shown = behind (goes frame w) e; wrote = silent w w b refl }
+      by true = record { shown = following (goes frame w) e; wrote = silent w w b refl }
       by false = refl
   closed (jumps k frame w) e h = by (are_unused next.bound frame w)
     where
       by : (t : Bool) → CameTo w b b None r (at c.func next.rest (where_so t left_behind None w (λ w. jumps k frame w))) (where_so t left_behind None w (λ w. jumps k frame w))
-      by true = record { shown = behind (jumps k frame w) e; wrote = silent w w b refl }
+      by true = record { shown = following (jumps k frame w) e; wrote = silent w w b refl }
       by false = refl
-  closed (leaves a kept w) e h = record { shown = behind (leaves a kept w) e; wrote = silent w w b refl }
+  closed (leaves a kept w) e h = record { shown = following (leaves a kept w) e; wrote = silent w w b refl }
   closed (ends o w) e h = none r.at h
     where
       none : (a : At) → ShowsStep q.items r c.func a (ends o w) → CameTo w b b None r (at c.func next.rest (ends o w)) (ends o w)

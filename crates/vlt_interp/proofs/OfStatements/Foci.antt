@@ -202,8 +202,8 @@ module _ (focus_is : Focus) (r : Run) (c : Conf) (q : ShowsWith (Unfocus focus_i
   next = next_is q.items r.values r.values.base r.depth focus_is (tasks_left r) c.tasks q.shown
 
   -- the run without the task
-  abbrev behind : (x : Step) → c.step ≡ x → ShowsConf r (at c.func next.rest x)
-  behind x e = record { items = q.items; holds = q.holds; func = q.func; shown = next.left; step = subst (ShowsStep q.items r c.func r.at) e q.step }
+  abbrev following : (x : Step) → c.step ≡ x → ShowsConf r (at c.func next.rest x)
+  following x e = record { items = q.items; holds = q.holds; func = q.func; shown = next.left; step = subst (ShowsStep q.items r c.func r.at) e q.step }
 
   abbrev moves_to : Setup → Step → Conf
   moves_to s x = at c.func next.rest (focus_end s next.guard next.key next.adopter next.number x)
@@ -212,7 +212,7 @@ module _ (focus_is : Focus) (r : Run) (c : Conf) (q : ShowsWith (Unfocus focus_i
   moved_is s = ap (λ us. moved_in s c.func us c.step) next.is
 
   finds_end : (s : Setup) (frame : Frame) (w : World) (x : Named) (o : Named) (e : c.step ≡ goes frame w) → focused_object s next.key next.number frame w.objects ≡ Ok x → lent_object next.guard.key next.adopter frame w.objects ≡ Ok o
-      → FindsEnd r.heap r.values (seen_in s.program r (tasks_left r) c.func next.rest frame w (behind (goes frame w) e)) w focus_is.object focus_is.adopter
+      → FindsEnd r.heap r.values (seen_in s.program r (tasks_left r) c.func next.rest frame w (following (goes frame w) e)) w focus_is.object focus_is.adopter
   finds_end s frame w x o e found lent_is =
       let k = focused_is s next.key next.number frame w x found in
       record {
@@ -239,7 +239,7 @@ module _ (focus_is : Focus) (r : Run) (c : Conf) (q : ShowsWith (Unfocus focus_i
       let a = found_safe (focused_object s next.key next.number g.frame g.world.objects) g.world _ (focused_fault s next.key next.number g.frame g.world) step in
       let b = found_safe (lent_object next.guard.key next.adopter g.frame g.world.objects) g.world _ (lent_fault next.guard.key next.adopter g.frame g.world) a.safe in
       record {
-        seen = seen_in s.program r (tasks_left r) c.func next.rest g.frame g.world (behind (goes g.frame g.world) g.is);
+        seen = seen_in s.program r (tasks_left r) c.func next.rest g.frame g.world (following (goes g.frame g.world) g.is);
         world = g.world;
         objects = refl;
         finds = finds_end s g.frame g.world a.value b.value g.is a.is b.is;
@@ -252,11 +252,11 @@ module _ (focus_is : Focus) (r : Run) (c : Conf) (q : ShowsWith (Unfocus focus_i
     where
       by : (a : At) (x : Step) → r.at ≡ a → c.step ≡ x → ShowsStep q.items r c.func a x → CameTo (world_in x) b b None r (moves_to s x) (moves_to s x).step
       by Goes x e g h = absurd (not_on e)
-      by (Jumps k) (jumps d frame w) e g h = record { shown = behind (jumps d frame w) g; wrote = silent w w b refl }
+      by (Jumps k) (jumps d frame w) e g h = record { shown = following (jumps d frame w) g; wrote = silent w w b refl }
       by (Jumps k) (goes frame w) e g h = absurd h
       by (Jumps k) (leaves a kept w) e g h = absurd h
       by (Jumps k) (ends o w) e g h = absurd h
-      by Leaves (leaves a kept w) e g h = record { shown = behind (leaves a kept w) g; wrote = silent w w b refl }
+      by Leaves (leaves a kept w) e g h = record { shown = following (leaves a kept w) g; wrote = silent w w b refl }
       by Leaves (goes frame w) e g h = absurd h
       by Leaves (jumps d frame w) e g h = absurd h
       by Leaves (ends o w) e g h = absurd h
@@ -267,7 +267,7 @@ module _ (focus_is : Focus) (r : Run) (c : Conf) (q : ShowsWith (Unfocus focus_i
     ended_came frame w e = by_object (focused_object s next.key next.number frame w.objects) refl (focused_fault s next.key next.number frame w)
       where
         k : ShowsConf r (at c.func next.rest (goes frame w))
-        k = behind (goes frame w) e
+        k = following (goes frame w) e
 
         u : World
         u = unfocused_world frame.depth next.guard.key next.adopter next.number w
@@ -277,8 +277,8 @@ module _ (focus_is : Focus) (r : Run) (c : Conf) (q : ShowsWith (Unfocus focus_i
 
         ended : (x o : Named) → focused_object s next.key next.number frame w.objects ≡ Ok x → lent_object next.guard.key next.adopter frame w.objects ≡ Ok o → Came w b b None new (at c.func next.rest (goes frame u))
         ended x o found lent_is = record {
-          shown = stays_left r new c.func next.rest frame w frame u same (behind (goes frame w) e) (record {
-            tables = subst (λ v. Shows q.items new.heap v frame u.objects) (sym values) (does (seen_in s.program r (tasks_left r) c.func next.rest frame w (behind (goes frame w) e)) w refl (finds_end s frame w x o e found lent_is));
+          shown = stays_left r new c.func next.rest frame w frame u same (following (goes frame w) e) (record {
+            tables = subst (λ v. Shows q.items new.heap v frame u.objects) (sym values) (does (seen_in s.program r (tasks_left r) c.func next.rest frame w (following (goes frame w) e)) w refl (finds_end s frame w x o e found lent_is));
             depth = refl;
             hosts = subst (λ h. ShowsHost h u) (sym host) (record { input = runs.hosts.input; answers = runs.hosts.answers; taken = runs.hosts.taken });
             fuel = runs.fuel ∙ sym fuel;

@@ -51,10 +51,10 @@ module _ (w0 : World) where
   filled_in f [] (a ∷ rest) frame w go s h = record { same = s }
   filled_in f (v ∷ vs) [] frame w go s h = record { same = s }
 
-  abbrev Behind : (Frame → World → Step) → Type 0
-  Behind go = (frame : Frame) (w : World) → IsSameOutside w0 w → IsInside w0 (go frame w)
+  abbrev Following : (Frame → World → Step) → Type 0
+  Following go = (frame : Frame) (w : World) → IsSameOutside w0 w → IsInside w0 (go frame w)
 
-  operands_in : (p : Program) (f : Func) (os : List Operand) (frame : Frame) (w : World) (go : List Value → Frame → World → Step) → IsSameOutside w0 w → ((a : List Value) → Behind (go a)) → IsInside w0 (with_operands p f os frame w go)
+  operands_in : (p : Program) (f : Func) (os : List Operand) (frame : Frame) (w : World) (go : List Value → Frame → World → Step) → IsSameOutside w0 w → ((a : List Value) → Following (go a)) → IsInside w0 (with_operands p f os frame w go)
   unfolding with_operands
   operands_in p f [] frame w go s h = h [] frame w s
   operands_in p f (o ∷ os) frame w go s h =
@@ -65,7 +65,7 @@ module _ (w0 : World) where
   packed_in [] frame w go s h = h [] w s
   packed_in (k ∷ ks) frame w go s h = found_in w0 _ w _ s (λ n. packed_in ks frame _ _ (objects_out w0 w _ s) (λ ns v t. h _ v t))
 
--- the world behind a silent statement is the one before it, but for its objects
+-- the world after a silent statement is the one before it, but for its objects
 pub simple_inside : (r : Setup) (f : Func) (s : Simple) (frame : Frame) (w : World) → IsSilent s → IsInside w (does_simple r f s frame w)
 unfolding made_in swap_step open_step
 simple_inside r f (set v x) frame w e = found_in w _ w _ (outside_same w) (λ a. record { same = outside_same w })

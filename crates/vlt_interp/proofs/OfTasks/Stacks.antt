@@ -9,7 +9,7 @@ use Rattle.vlt_acts.specs.Frames.Frames.{frame_end, IsBelow, Waits}
 use Rattle.vlt_acts.proofs.OfFrames.Standing.{stands_same, stands_kept}
 use Rattle.vlt_interp.specs.declared.tasks.task.Task.{Task}
 use Rattle.vlt_interp.specs.declared.tasks.task.Task.TheVariants.{List as Listed, Closing, Turn, Unfocus, Back}
-use Rattle.vlt_interp.specs.Tasks.Shown.{ShowsTask, base_behind, depth_behind, ShowsTasks}
+use Rattle.vlt_interp.specs.Tasks.Shown.{ShowsTask, base_after, depth_after, ShowsTasks}
 
 -- a task more is the next one
 pub next_is : (old new : List Task) (t : Task) → new ≡ old ++ t ∷ [] → reverse new ≡ t ∷ reverse old
@@ -63,19 +63,19 @@ module _ (xs ys : Items) (old new : Values) where
   task_kept base depth (Back w) (m.turn d body) s h = h
   task_kept base depth (Back w) (m.unfocus g q a n) s h = h
 
-  low_behind : (base depth : ℕ) (t : Task) (u : m.Task) → ShowsTask xs old base depth t u → base_behind base t ≤ base
-  low_behind base depth (Back w) (m.back k) h = let e = caller_ends w k base h.waits in omega (arith, e)
-  low_behind base depth (Listed ss) u h = omega arith
-  low_behind base depth Closing u h = omega arith
-  low_behind base depth (Turn e b) u h = omega arith
-  low_behind base depth (Unfocus f) u h = omega arith
-  low_behind base depth (Back w) (m.list ts) h = absurd h
-  low_behind base depth (Back w) (m.closing bound) h = absurd h
-  low_behind base depth (Back w) (m.turn d body) h = absurd h
-  low_behind base depth (Back w) (m.unfocus g q a n) h = absurd h
+  low_after : (base depth : ℕ) (t : Task) (u : m.Task) → ShowsTask xs old base depth t u → base_after base t ≤ base
+  low_after base depth (Back w) (m.back k) h = let e = caller_ends w k base h.waits in omega (arith, e)
+  low_after base depth (Listed ss) u h = omega arith
+  low_after base depth Closing u h = omega arith
+  low_after base depth (Turn e b) u h = omega arith
+  low_after base depth (Unfocus f) u h = omega arith
+  low_after base depth (Back w) (m.list ts) h = absurd h
+  low_after base depth (Back w) (m.closing bound) h = absurd h
+  low_after base depth (Back w) (m.turn d body) h = absurd h
+  low_after base depth (Back w) (m.unfocus g q a n) h = absurd h
 
-  below_behind : (base low : ℕ) → low ≤ base → IsBelowSame xs ys old new base → IsBelowSame xs ys old new low
-  below_behind base low l s = record { keep = s.keep; width = s.width; same = λ j k. s.same j (omega (arith, k, l)) }
+  below_after : (base low : ℕ) → low ≤ base → IsBelowSame xs ys old new base → IsBelowSame xs ys old new low
+  below_after base low l s = record { keep = s.keep; width = s.width; same = λ j k. s.same j (omega (arith, k, l)) }
 
   -- the tasks are shown still where objects are known still, and where no slot below the running frame has changed
   pub tasks_kept : (base depth : ℕ) (ts : List Task) (us : List m.Task) → IsBelowSame xs ys old new base → ShowsTasks xs old base depth ts us → ShowsTasks ys new base depth ts us
@@ -84,5 +84,5 @@ module _ (xs ys : Items) (old new : Values) where
   tasks_kept base depth (t ∷ ts) [] s h = h
   tasks_kept base depth (t ∷ ts) (u ∷ us) s h = (
     task_kept base depth t u s h.0,
-    tasks_kept (base_behind base t) (depth_behind depth t) ts us (below_behind base (base_behind base t) (low_behind base depth t u h.0) s) h.1,
+    tasks_kept (base_after base t) (depth_after depth t) ts us (below_after base (base_after base t) (low_after base depth t u h.0) s) h.1,
   )

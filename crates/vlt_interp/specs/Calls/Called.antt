@@ -43,9 +43,9 @@ pub record IsExternalCall (p : Program) (g : Func) (keys : List ℕ) : Type 0 wh
   pub lists : ListsKeys p g keys
   pub sets : AreSets p g g.clause
 
--- ---- arguments behind the frame
+-- ---- arguments after the frame
 
--- in this frame and this world of the function f the values of the arguments stand behind the frame, for a call of g
+-- in this frame and this world of the function f the values of the arguments stand after the frame, for a call of g
 pub record HasArgs (items : Items) (r : Run) (f g : Func) (args : List Value) (frame : Frame) (w : World) : Type 0 where
   pub objects : ShowObjects items r.values.width w.objects
   pub frame_shown : ShowsFrame items r.values frame

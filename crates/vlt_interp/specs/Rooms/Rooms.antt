@@ -15,7 +15,7 @@ pub record HoldsFields (p : Program) (width slots : ℕ) : Type 0 where
 abbrev pub slots_of_frames : Program → (depth width : ℕ) → ℕ
 slots_of_frames p depth width = (depth + 1) * frame_slots p width
 
--- behind all frames there is room for the parts of a value, and for the fields of an object
+-- after all frames there is room for the parts of a value, and for the fields of an object
 pub record HoldsFrames (p : Program) (depth width slots : ℕ) : Type 0 where
   pub parts : slots_of_frames p depth width + width * width ≤ slots
   pub fields : (t : ℕ) → slots_of_frames p depth width + length (fields_of p t) * width ≤ slots

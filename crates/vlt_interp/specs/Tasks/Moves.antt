@@ -34,7 +34,7 @@ pub record HasRoom (p : Program) (depth : ℕ) (r : Run) : Type 0 where
   pub tasks : depth * (tall_of p + 1) + 3 ≤ vec_capacity r.tasks
   pub line : greatest line_length p.fns ≤ vec_capacity r.host.line
 
--- What a statement asks beside that the run doesn't go wrong. So many tasks are left with what is behind the statement, and
+-- What a statement asks beside that the run doesn't go wrong. So many tasks are left with what is after the statement, and
 -- so many slots are there up to the end of the running frame.
 pub record IsReady (p : Program) (depth : ℕ) (r : Run) : Type 0 where
   pub room : HasRoom p depth r

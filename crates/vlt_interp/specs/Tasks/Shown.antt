@@ -54,21 +54,21 @@ ShowsTask items values base depth (Unfocus f) (m.unfocus g q a n) = IsFocused it
 ShowsTask items values base depth (Back w) (m.back k) = IsCaller items values base depth w k
 ShowsTask items values base depth _ _ = ⊥
 
--- where the frame begins that runs behind a task, and its depth
-abbrev pub base_behind : (base : ℕ) → Task → ℕ
-base_behind base (Back w) = w.base
-base_behind base t = base
+-- where the frame begins that runs after a task, and its depth
+abbrev pub base_after : (base : ℕ) → Task → ℕ
+base_after base (Back w) = w.base
+base_after base t = base
 
-abbrev pub depth_behind : (depth : ℕ) → Task → ℕ
-depth_behind depth (Back w) = depth - 1
-depth_behind depth t = depth
+abbrev pub depth_after : (depth : ℕ) → Task → ℕ
+depth_after depth (Back w) = depth - 1
+depth_after depth t = depth
 
 -- Tasks, the next one first. The first frame begins at 0.
 abbrev pub ShowsTasks : Items → Values → (base depth : ℕ) → List Task → List m.Task → Type 0
 ShowsTasks items values base depth [] [] = (base ≡ 0) × (depth ≡ 1)
 ShowsTasks items values base depth (t ∷ ts) (u ∷ us) =
     ShowsTask items values base depth t u ×
-    ShowsTasks items values (base_behind base t) (depth_behind depth t) ts us
+    ShowsTasks items values (base_after base t) (depth_after depth t) ts us
 ShowsTasks items values base depth _ _ = ⊥
 
 -- what is left to do, the next task first

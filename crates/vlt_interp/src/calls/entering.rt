@@ -1,6 +1,6 @@
 //! Functions with a body, which are entered.
 
-ghost use Rattle.std.specs.Prelude.{◌≡◌, false};
+ghost use Rattle.std.specs.Prelude.{◌≡◌};
 ghost use Rattle.std.specs.Option.{option_map};
 ghost use Rattle.vlt_core.specs.View.{func_of, keys_of};
 ghost use Rattle.vlt_steps.specs.Writing.{Outside};
@@ -12,7 +12,7 @@ use vlt_base::{KeyId, VarId};
 use vlt_core::Func;
 use vlt_steps::{Stop, put};
 
-/// A function with a body is entered where the depth allows; the values of its arguments stand behind the frame.
+/// A function with a body is entered where the depth allows; the values of its arguments stand after the frame.
 pub fn enter_body<'a>(
     rules: &Rules<'a>,
     callee: &'a Func,

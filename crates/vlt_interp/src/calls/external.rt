@@ -12,7 +12,7 @@ use vlt_externals::call_external;
 use vlt_io::Sink;
 use vlt_steps::Stop;
 
-/// An external is called, the values of whose arguments stand behind the frame.
+/// An external is called, the values of whose arguments stand after the frame.
 pub fn call_out<K: Sink>(
     rules: &Rules,
     callee: &Func,

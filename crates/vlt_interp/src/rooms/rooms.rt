@@ -37,7 +37,7 @@ fn frame_slots(p: &Program, width: u32) -> u128
     most
 }
 
-/// How many slots all frames can have, with the values of operands behind them.
+/// How many slots all frames can have, with the values of operands after them.
 pub fn value_room(p: &Program, depth: u32, width: u32) -> Option<usize>
     ensures { IfSome result (HoldsFrames (program_of p.now) depth width) }
 {

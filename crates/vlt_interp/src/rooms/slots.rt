@@ -3,7 +3,7 @@
 ghost use Rattle.std.specs.Prelude.{◌≡◌, ◌<◌, ◌+◌, ◌↔◌, IsTrue, map};
 ghost use Rattle.std.specs.List.{count_by, sum_by};
 ghost use Rattle.vlt_base.specs.Limits.{limit_of};
-ghost use Rattle.vlt_core.specs.View.{program_of, func_of, type_of, field_of, case_of, var_of, ty_of};
+ghost use Rattle.vlt_core.specs.View.{program_of, field_of, case_of, var_of, ty_of};
 ghost use Rattle.vlt_core.specs.Widths as widths;
 ghost use Rattle.vlt_core.specs.Widths.{greatest, slots_needed};
 ghost use Rattle.vlt_interp.specs.Rooms.Sorts.{is_of, capped_count};

@@ -7,7 +7,7 @@ ghost use Rattle.vlt_meaning_laws.specs.Machine.Bounds.{tall_of};
 
 use vlt_core::{Arm, Block, Form, Program, Stmt};
 
-/// The tasks that statements need, those that are left behind them included; none where they can't be counted.
+/// The tasks that statements need, those that are left after them included; none where they can't be counted.
 #[cycle(need)]
 fn need(stmts: &[Stmt]) -> Option<u32>
     ensures { IfSome result (λ n. n ≡ bounds.need (stmts_of stmts.now)) }

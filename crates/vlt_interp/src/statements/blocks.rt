@@ -52,7 +52,7 @@ pub fn choose<'a>(
     }
 }
 
-/// The next turn of a loop, or what is behind it.
+/// The next turn of a loop, or what is after it.
 pub fn turn_on<'a>(e: &'a Expr, body: &'a Block, run: &mut Run<'a, '_>) -> Option<Stop>
     requires can { MayDo (core.loop (expr_of e.now) (block_of body.now)) run.old }
     ensures { (s : Setup) (b : Outside) → Does (doing (core.loop (expr_of e.now)

@@ -1,4 +1,4 @@
--- The least of refusals that stand behind each other.
+-- The least of refusals that stand after each other.
 use Rattle.std.proofs.Common.{◌≡◌, ◌∙◌, List, [], ◌∷◌, ◌++◌, map, Option, refl, ap}
 use Rattle.vlt_kinds_types.specs.declared.names.found.Refusal.{Refusal}
 use Rattle.vlt_kinds_types.specs.Names.Refusals.{lesser, least_from, of_each, found_each}

@@ -56,9 +56,9 @@ abbrev pub with_declared : Globals → Counts → Decl → Globals
 with_declared known c d =
     if is_global known (decl_name d).text then known else known ++ ((decl_name d).text, global_of c d) ∷ []
 
-abbrev pub globals_behind : Globals → Counts → List Decl → Globals
-globals_behind known c [] = known
-globals_behind known c (d ∷ ds) = globals_behind (with_declared known c d) (counts_after c d) ds
+abbrev pub globals_after : Globals → Counts → List Decl → Globals
+globals_after known c [] = known
+globals_after known c (d ∷ ds) = globals_after (with_declared known c d) (counts_after c d) ds
 
 -- the names that were known before
 abbrev pub declared_again : Globals → Counts → List Decl → List Name
@@ -72,7 +72,7 @@ abbrev pub no_counts : Counts
 no_counts = record { sets = 0; types = 0; functions = 0 }
 
 abbrev pub globals_of : List Decl → Globals
-globals_of = globals_behind [] no_counts
+globals_of = globals_after [] no_counts
 
 -- the table of the code
 abbrev pub names_seen : Seen → Globals

@@ -27,13 +27,13 @@ abbrev pub has_text : Name → Name → Bool
 has_text n m = bytes_eq n.text m.text
 
 -- the names that stand in the list for another time, where these stand before it
-abbrev pub repeated_behind : List Name → List Name → List Name
-repeated_behind seen [] = []
-repeated_behind seen (n ∷ ns) =
-    if list_any (has_text n) seen then n ∷ repeated_behind (seen ++ n ∷ []) ns else repeated_behind (seen ++ n ∷ []) ns
+abbrev pub repeated_after : List Name → List Name → List Name
+repeated_after seen [] = []
+repeated_after seen (n ∷ ns) =
+    if list_any (has_text n) seen then n ∷ repeated_after (seen ++ n ∷ []) ns else repeated_after (seen ++ n ∷ []) ns
 
 unfoldable pub repeated_names : List Name → List Name
-repeated_names = repeated_behind []
+repeated_names = repeated_after []
 
 abbrev pub repeated_parts : List Name → List Refusal
 repeated_parts ns = refuse rule.REPEATED_PART (repeated_names ns)
@@ -44,15 +44,15 @@ is_alone x [] = not x.above
 is_alone x (y ∷ ys) = not x.above && not y.above
 
 -- the chains of one state that stood before, where these names stand before the list
-abbrev pub alone_behind : List Name → List SetState → List Name
-alone_behind seen [] = []
-alone_behind seen (x ∷ xs) =
+abbrev pub alone_after : List Name → List SetState → List Name
+alone_after seen [] = []
+alone_after seen (x ∷ xs) =
     if is_alone x xs && list_any (has_text x.name) seen
-    then x.name ∷ alone_behind (seen ++ x.name ∷ []) xs
-    else alone_behind (seen ++ x.name ∷ []) xs
+    then x.name ∷ alone_after (seen ++ x.name ∷ []) xs
+    else alone_after (seen ++ x.name ∷ []) xs
 
 unfoldable pub repeated_states : List SetState → List Refusal
-repeated_states ss = refuse rule.REPEATED_PART (alone_behind [] ss)
+repeated_states ss = refuse rule.REPEATED_PART (alone_after [] ss)
 
 -- ---- 4: the name of an external isn't ASCII
 

@@ -1,7 +1,6 @@
 //! The names that a whole file knows.
 
 ghost use Rattle.std.specs.Prelude.{◌≡◌, ◌<◌, ◌^◌, ◌+◌, ◌-◌, false, [], ◌++◌, ◌∷◌, map, length, IfOk, OnOk};
-ghost use Rattle.std.specs.List.{list_any};
 ghost use Rattle.vlt_syntax.specs.Tree as s;
 ghost use Rattle.vlt_syntax.specs.View.{name_of, decl_of};
 ghost use Rattle.vlt_kinds_types.specs.Names.Refusals.{least_from};
@@ -75,7 +74,7 @@ struct Counts {
 }
 
 impl Counts {
-    /// What is declared here, and the counts behind it.
+    /// What is declared here, and the counts after it.
     fn declare(&mut self, decl: &Decl) -> Entity
         requires { self.old.sets + self.old.types + self.old.functions < 2 ^ 32 - 1 }
         ensures what { result ≡ global_of (counts_seen self.old) (decl_of decl.now) }

@@ -10,7 +10,7 @@ use Rattle.vlt_core.specs.KindedScopes.{Ids, Around, at_block_start, left_behind
 use Rattle.vlt_core.specs.KindedOperands.{touch_broken, field_type, misfit, unless_owning, type_of_expr, expr_broken, value_broken, operand_broken, operands_broken, left_broken}
 use Rattle.vlt_core.specs.KindedStatements.{tracked_broken, tracked_type, struct_broken, droppable_broken, is_guarded_type, is_tracked_type, wanted_of, guarded_object, objects_apart, simple_broken, made_broken, made_types, opened_broken, owning_field_types, swap_broken, keys_differ, guard_key}
 use Rattle.vlt_core.specs.KindedCalls.{target_alone_broken, gives_other_keys, argument_type, argument_broken_by, arguments_broken, call_broken, call_target_broken, new_result_broken, returned_broken, return_broken}
-use Rattle.vlt_core.specs.KindedBodies.{row_broken, form_rows, block_rows, stmts_rows, arms_rows, ids_behind, ids_behind_block, with_vars, with_focus, in_loop, in_focus, ends, body_rows, list_broken, focus_broken, first_ids}
+use Rattle.vlt_core.specs.KindedBodies.{row_broken, form_rows, block_rows, stmts_rows, arms_rows, ids_following, ids_following_block, with_vars, with_focus, in_loop, in_focus, ends, body_rows, list_broken, focus_broken, first_ids}
 use Rattle.vlt_core.specs.declared.rules.TheConstants as rule
 use Rattle.vlt_core_laws.proofs.Unbroken.{EachEmpty, filled_not_empty, some_not_none, some_same, left_empty, right_empty, unless_holds, each_left, each_right}
 use Rattle.vlt_core_laws.proofs.Headed.{each_at}
@@ -295,7 +295,7 @@ module _ (p : Program) (f : Func) (types : flat_map (λ d. type_broken p f d.ty)
     knows_form around ids (core.choose e a b) none rows = (
       knows_expr ids e (left_empty (expr_broken p f ids e) _ (left_empty (value_broken p f ids (Some bool) e) _ (left_empty (value_broken p f ids (Some bool) e ++ list_broken p f [] ids a) _ none))),
       knows_block around ids a (each_left (block_rows p f around ids a) _ rows),
-      knows_block around (ids_behind_block p f a ids) b (each_right (block_rows p f around ids a) _ rows),
+      knows_block around (ids_following_block p f a ids) b (each_right (block_rows p f around ids a) _ rows),
     )
     knows_form around ids (core.loop e b) none rows =
         (knows_expr ids e (left_empty (expr_broken p f ids e) _ (left_empty (value_broken p f ids (Some bool) e) _ none)), knows_block (in_loop around) ids b rows)
@@ -311,15 +311,15 @@ module _ (p : Program) (f : Func) (types : flat_map (λ d. type_broken p f d.ty)
     knows_stmts : (around : Around) (ids : Ids) (ended : Bool) (ss : Stmts) → EachEmpty (stmts_rows p f around ids ended ss) → KnowsStmts p f ss
     knows_stmts around ids ended core.done rows = tt
     knows_stmts around ids ended (core.next at s rest) rows = (
-      knows_form around ids s (right_empty (unless (not ended) rule.BEHIND_END) _ rows.0) (each_left (form_rows p f around ids s) _ rows.1),
-      knows_stmts around (ids_behind p f s ids) (ends s) rest (each_right (form_rows p f around ids s) _ rows.1),
+      knows_form around ids s (right_empty (unless (not ended) rule.AFTER_END) _ rows.0) (each_left (form_rows p f around ids s) _ rows.1),
+      knows_stmts around (ids_following p f s ids) (ends s) rest (each_right (form_rows p f around ids s) _ rows.1),
     )
 
     knows_arms : (around : Around) (ids : Ids) (arms : Arms) → EachEmpty (arms_rows p f around ids arms) → KnowsArms p f arms
     knows_arms around ids core.no_arms rows = tt
     knows_arms around ids (core.arm c vs b rest) rows = (
       knows_block around (with_vars f vs ids) b (each_left (block_rows p f around (with_vars f vs ids) b) _ rows),
-      knows_arms around (left_behind ids (ids_behind_block p f b (with_vars f vs ids))) rest (each_right (block_rows p f around (with_vars f vs ids) b) _ rows),
+      knows_arms around (left_behind ids (ids_following_block p f b (with_vars f vs ids))) rest (each_right (block_rows p f around (with_vars f vs ids) b) _ rows),
     )
 
   -- ---- keys

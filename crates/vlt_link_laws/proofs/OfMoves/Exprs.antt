@@ -40,7 +40,7 @@ position_same g t u same xs =
     ap₂ (λ (n : ℕ) (l : ℕ). cond (nat_lt n l) (Some n) None)
     (prefix_same g (λ y. not (t y)) (λ x. not (u x)) (λ x. ap not (same x)) xs) (length-map xs g)
 
--- ---- a value behind a look-up
+-- ---- a value after a look-up
 
 pub then_some : {A B : Type 0} (o : Option A) (go : A → Option B) (y : B) → then_with o go ≡ Some y → (x : A) × (o ≡ Some x) × (go x ≡ Some y)
 then_some None go y e = absurd (none-some y e)

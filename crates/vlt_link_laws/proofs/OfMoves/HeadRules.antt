@@ -20,13 +20,13 @@ use Rattle.vlt_kinds.specs.Kinds.{Kinds}
 use Rattle.vlt_kinds_heads.specs.declared.facts.Facts.{Facts}
 use Rattle.vlt_kinds_heads.specs.declared.facts.Typing.{Typing}
 use Rattle.vlt_kinds_heads.specs.Places.{result_uses, parameter_uses, clause_in, entry_key, is_fresh, first_states, second_states, HeadName, used_name, entry_name, parameter_name, parameter_names, head_names}
-use Rattle.vlt_kinds_heads.specs.Keys.{Keys, facts_of, behind_result, behind_parameters, behind_entry, behind_use, fresh_typed, places_behind, keys_behind}
-use Rattle.vlt_kinds_heads.specs.Bounds.{is_key, is_parameter, is_taken, variable_refused, behind_bound, variables_refused}
+use Rattle.vlt_kinds_heads.specs.Keys.{Keys, facts_of, following_result, after_parameters, following_entry, after_use, fresh_typed, places_after, keys_after}
+use Rattle.vlt_kinds_heads.specs.Bounds.{is_key, is_parameter, is_taken, variable_refused, after_bound, variables_refused}
 use Rattle.vlt_kinds_heads.specs.Heads.{result_type_refused, parameter_refused, Seen, is_repeated, with_name, name_refused, names_refused, again_refused, type_rule, clash_with, clash, result_clash_with, result_clash, result_key_refused, entry_key_refused, key_states_refused, entry_states_refused, entry_refused, types_refused, clause_again, typings_refused, result_refused, head_refused_by, head_refused}
 use Rattle.vlt_link_laws.specs.Moves.Sees.{Sees, IsFree, moved_wanted}
 use Rattle.vlt_link_laws.proofs.OfMoves.Empty.{no_left, no_right, none_of_both, not_broken, quiet}
 use Rattle.vlt_link_laws.proofs.OfMoves.Named.{moved_use, ty_fine, uses_move, same_owned_states}
-use Rattle.vlt_link_laws.proofs.OfMoves.Heads.{moved_typing, moved_facts, moved_keys, looked_up, facts_move, entry_behind, use_behind, results_behind, parameters_behind, fresh_move, places_move, keys_move, result_uses_move, parameter_uses_move}
+use Rattle.vlt_link_laws.proofs.OfMoves.Heads.{moved_typing, moved_facts, moved_keys, looked_up, facts_move, entry_after, use_after, results_after, parameters_after, fresh_move, places_move, keys_move, result_uses_move, parameter_uses_move}
 
 -- the names of a head are free
 abbrev pub IsFreeHead : (a b : Kinds) → List HeadName → Type 0
@@ -59,16 +59,16 @@ module _ (m : Moves) where
   unfolding again_refused
   again_same ks e = ap (λ f. refuse_if f.in_clause rule.CLAUSE_KEY_AGAIN (entry_key e).at.from) (facts_move m ks (entry_key e).text)
 
-  entries_same : (ks : Keys) (es : List Entry) → along behind_entry again_refused (moved_keys m ks) es ≡ along behind_entry again_refused ks es
+  entries_same : (ks : Keys) (es : List Entry) → along following_entry again_refused (moved_keys m ks) es ≡ along following_entry again_refused ks es
   entries_same ks [] = refl
   entries_same ks (e ∷ es) =
-      ap₂ (λ x y. x ++ y) (again_same ks e) (ap (λ k. along behind_entry again_refused k es) (entry_behind m ks e) ∙ entries_same (behind_entry ks e) es)
+      ap₂ (λ x y. x ++ y) (again_same ks e) (ap (λ k. along following_entry again_refused k es) (entry_after m ks e) ∙ entries_same (following_entry ks e) es)
 
   clause_again_same : (rs ps : List KeyUse) (es : List Entry) → clause_again (map (moved_use m) rs) (map (moved_use m) ps) es ≡ clause_again rs ps es
   unfolding clause_again
   clause_again_same rs ps es =
-      ap (λ k. along behind_entry again_refused (behind_parameters k (map (moved_use m) ps)) es) (results_behind m [] rs) ∙
-      (ap (λ k. along behind_entry again_refused k es) (parameters_behind m (behind_result [] rs) ps) ∙ entries_same (behind_parameters (behind_result [] rs) ps) es)
+      ap (λ k. along following_entry again_refused (after_parameters k (map (moved_use m) ps)) es) (results_after m [] rs) ∙
+      (ap (λ k. along following_entry again_refused k es) (parameters_after m (following_result [] rs) ps) ∙ entries_same (after_parameters (following_result [] rs) ps) es)
 
   module _ (apart : (t u : ℕ) → (m.types t == m.types u) ≡ (t == u)) where
     -- ---- 18, 20
@@ -85,14 +85,14 @@ module _ (m : Moves) where
     unfolding clash
     clash_same ks u = ap (λ f. clash_with f.typing (moved_wanted m u.wanted) u.tracked u.at) (facts_move m ks u.key) ∙ clash_with_same (facts_of ks u.key).typing u.wanted u.tracked u.at
 
-    clashes_same : (ks : Keys) (us : List KeyUse) → along behind_use clash (moved_keys m ks) (map (moved_use m) us) ≡ along behind_use clash ks us
+    clashes_same : (ks : Keys) (us : List KeyUse) → along after_use clash (moved_keys m ks) (map (moved_use m) us) ≡ along after_use clash ks us
     clashes_same ks [] = refl
     clashes_same ks (u ∷ us) =
-        ap₂ (λ x y. x ++ y) (clash_same ks u) (ap (λ k. along behind_use clash k (map (moved_use m) us)) (use_behind m ks u) ∙ clashes_same (behind_use ks u) us)
+        ap₂ (λ x y. x ++ y) (clash_same ks u) (ap (λ k. along after_use clash k (map (moved_use m) us)) (use_after m ks u) ∙ clashes_same (after_use ks u) us)
 
     typings_same : (places : Keys) (rs ps : List KeyUse) → typings_refused (moved_keys m places) (map (moved_use m) rs) (map (moved_use m) ps) ≡ typings_refused places rs ps
     unfolding typings_refused
-    typings_same places rs ps = ap (λ k. along behind_use clash k (map (moved_use m) ps)) (fresh_move m places rs) ∙ clashes_same (fresh_typed places rs) ps
+    typings_same places rs ps = ap (λ k. along after_use clash k (map (moved_use m) ps)) (fresh_move m places rs) ∙ clashes_same (fresh_typed places rs) ps
 
     result_with_same : (f : Facts) (o : Option Typing) (w : Wanted) (tr : Bool) (at : ℕ) →
         result_clash_with (moved_facts m f) (option_map (moved_typing m) o) (moved_wanted m w) tr at ≡ result_clash_with f o w tr at
@@ -180,12 +180,12 @@ module _ (m : Moves) where
     variable_fine ks ps again (s.given k at) free none = refl
     variable_fine ks ps again (s.fresh k at) free none = refl
 
-    variables_fine : (ks : Keys) (ps : List Parameter) (again : Bool) (es : List Entry) → Each (IsFreeVariable a b) es → along behind_bound (variable_refused a.file.globals ks ps) again es ≡ []
-        → along behind_bound (variable_refused b.file.globals (moved_keys m ks) ps) again es ≡ []
+    variables_fine : (ks : Keys) (ps : List Parameter) (again : Bool) (es : List Entry) → Each (IsFreeVariable a b) es → along after_bound (variable_refused a.file.globals ks ps) again es ≡ []
+        → along after_bound (variable_refused b.file.globals (moved_keys m ks) ps) again es ≡ []
     variables_fine ks ps again [] free none = refl
     variables_fine ks ps again (e ∷ es) free none =
         none_of_both _ _ (variable_fine ks ps again e free.0 (no_left (variable_refused a.file.globals ks ps again e) _ none))
-        (variables_fine ks ps (behind_bound again e) es free.1 (no_right (variable_refused a.file.globals ks ps again e) _ none))
+        (variables_fine ks ps (after_bound again e) es free.1 (no_right (variable_refused a.file.globals ks ps again e) _ none))
 
     -- ---- 7 to 13
 
@@ -240,9 +240,9 @@ module _ (m : Moves) where
         let one = no_right (types_refused a.file h) _ none in
         let two = no_right (names_refused a.file.globals (head_names a.file h)) _ one in
         let three = no_right (clause_again rs ps es) _ two in
-        let four = no_right (typings_refused (places_behind rs ps es) rs ps) _ three in
-        let five = no_right (result_refused (keys_behind rs ps es) rs) _ four in
-        let six = no_right (of_each (entry_refused a.file (keys_behind rs ps es)) es) _ five in
+        let four = no_right (typings_refused (places_after rs ps es) rs ps) _ three in
+        let five = no_right (result_refused (keys_after rs ps es) rs) _ four in
+        let six = no_right (of_each (entry_refused a.file (keys_after rs ps es)) es) _ five in
         ap₂ (λ x y. head_refused_by b.file h x y)
         (result_uses_move m a b sees h.result_type (no_left (result_type_refused a.file h.result_type) _ types))
         (parameter_uses_move m a b sees h.parameters (no_right (result_type_refused a.file h.result_type) _ types)) ∙
@@ -251,12 +251,12 @@ module _ (m : Moves) where
         (ap (λ ns. names_refused b.file.globals ns) (head_names_same h types) ∙ names_fine [] (head_names a.file h) free (no_left (names_refused a.file.globals (head_names a.file h)) _ one))
         (none_of_both _ _ (clause_again_same rs ps es ∙ no_left (clause_again rs ps es) _ two)
         (none_of_both _ _
-        (ap (λ k. typings_refused k (map (moved_use m) rs) (map (moved_use m) ps)) (places_move m rs ps es) ∙ (typings_same sees.apart (places_behind rs ps es) rs ps ∙ no_left (typings_refused (places_behind rs ps es) rs ps) _ three))
+        (ap (λ k. typings_refused k (map (moved_use m) rs) (map (moved_use m) ps)) (places_move m rs ps es) ∙ (typings_same sees.apart (places_after rs ps es) rs ps ∙ no_left (typings_refused (places_after rs ps es) rs ps) _ three))
         (none_of_both _ _
-        (ap (λ k. result_refused k (map (moved_use m) rs)) (keys_move m rs ps es) ∙ (result_same sees.apart (keys_behind rs ps es) rs ∙ no_left (result_refused (keys_behind rs ps es) rs) _ four))
+        (ap (λ k. result_refused k (map (moved_use m) rs)) (keys_move m rs ps es) ∙ (result_same sees.apart (keys_after rs ps es) rs ∙ no_left (result_refused (keys_after rs ps es) rs) _ four))
         (none_of_both _ _
-        (ap (λ k. of_each (entry_refused b.file k) es) (keys_move m rs ps es) ∙ (entries_fine (keys_behind rs ps es) es ∙ no_left (of_each (entry_refused a.file (keys_behind rs ps es)) es) _ five))
+        (ap (λ k. of_each (entry_refused b.file k) es) (keys_move m rs ps es) ∙ (entries_fine (keys_after rs ps es) es ∙ no_left (of_each (entry_refused a.file (keys_after rs ps es)) es) _ five))
         (none_of_both _ _
-        (ap (λ k. along behind_bound (variable_refused b.file.globals k h.parameters) false es) (keys_move m rs ps es)
-        ∙ variables_fine (keys_behind rs ps es) h.parameters false es variables (no_left (variables_refused a.file.globals (keys_behind rs ps es) h.parameters es) _ six))
-        (no_right (variables_refused a.file.globals (keys_behind rs ps es) h.parameters es) _ six)))))))
+        (ap (λ k. along after_bound (variable_refused b.file.globals k h.parameters) false es) (keys_move m rs ps es)
+        ∙ variables_fine (keys_after rs ps es) h.parameters false es variables (no_left (variables_refused a.file.globals (keys_after rs ps es) h.parameters es) _ six))
+        (no_right (variables_refused a.file.globals (keys_after rs ps es) h.parameters es) _ six)))))))

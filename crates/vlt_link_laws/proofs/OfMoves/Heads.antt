@@ -19,7 +19,7 @@ use Rattle.vlt_kinds.specs.Kinds.{Kinds}
 use Rattle.vlt_kinds_heads.specs.declared.facts.Facts.{Facts}
 use Rattle.vlt_kinds_heads.specs.declared.facts.Typing.{Typing}
 use Rattle.vlt_kinds_heads.specs.Places.{result_uses, parameter_uses, clause_in, entry_key}
-use Rattle.vlt_kinds_heads.specs.Keys.{Keys, no_facts, facts_of, is_unknown, with_result, with_parameter, with_entry, note, behind_result, behind_parameters, behind_entry, behind_clause, places_behind, typed_first, with_typing, behind_typing, behind_use, gives_type, behind_fresh, fresh_typed, parameters_typed, typed_keys, keys_behind, keys_of}
+use Rattle.vlt_kinds_heads.specs.Keys.{Keys, no_facts, facts_of, is_unknown, with_result, with_parameter, with_entry, note, following_result, after_parameters, following_entry, following_clause, places_after, typed_first, with_typing, after_typing, after_use, gives_type, after_fresh, fresh_typed, parameters_typed, typed_keys, keys_after, keys_of}
 use Rattle.vlt_kinds_heads.specs.Heads.{result_type_refused, parameter_refused, types_refused}
 use Rattle.vlt_kinds_heads.specs.Phase.{number_in, key_number, key_decl, typed_states, states_named, core_entry_in, core_entry, core_result, core_parameter, core_head}
 use Rattle.vlt_link_laws.specs.Moves.Sees.{Sees, moved_wanted}
@@ -73,66 +73,66 @@ module _ (m : Moves) where
   same_unknown wanted.Unknown = refl
   same_unknown (wanted.OfType t) = refl
 
-  pub results_behind : (es : Keys) (us : List KeyUse) → behind_result (moved_keys es) (map (moved_use m) us) ≡ moved_keys (behind_result es us)
-  results_behind es [] = refl
-  results_behind es (u ∷ us) =
-      ap (λ x. behind_result x (map (moved_use m) us)) (noted es u.key (with_result u) (with_result (moved_use m u)) (λ f. refl)) ∙ results_behind (note es u.key (with_result u)) us
+  pub results_after : (es : Keys) (us : List KeyUse) → following_result (moved_keys es) (map (moved_use m) us) ≡ moved_keys (following_result es us)
+  results_after es [] = refl
+  results_after es (u ∷ us) =
+      ap (λ x. following_result x (map (moved_use m) us)) (noted es u.key (with_result u) (with_result (moved_use m u)) (λ f. refl)) ∙ results_after (note es u.key (with_result u)) us
 
-  pub parameters_behind : (es : Keys) (us : List KeyUse) → behind_parameters (moved_keys es) (map (moved_use m) us) ≡ moved_keys (behind_parameters es us)
-  parameters_behind es [] = refl
-  parameters_behind es (u ∷ us) =
-      ap (λ x. behind_parameters x (map (moved_use m) us)) (noted es u.key (with_parameter u) (with_parameter (moved_use m u)) here) ∙ parameters_behind (note es u.key (with_parameter u)) us
+  pub parameters_after : (es : Keys) (us : List KeyUse) → after_parameters (moved_keys es) (map (moved_use m) us) ≡ moved_keys (after_parameters es us)
+  parameters_after es [] = refl
+  parameters_after es (u ∷ us) =
+      ap (λ x. after_parameters x (map (moved_use m) us)) (noted es u.key (with_parameter u) (with_parameter (moved_use m u)) here) ∙ parameters_after (note es u.key (with_parameter u)) us
     where
       here : (f : Facts) → with_parameter (moved_use m u) (moved_facts f) ≡ moved_facts (with_parameter u f)
       here f = ap (λ (x : Bool). let r : Facts = record f { in_parameters = true; is_tracked_parameter = f.is_tracked_parameter || u.tracked; is_left_open = f.is_left_open || x; typing = option_map moved_typing f.typing } in r) (same_unknown u.wanted)
 
-  pub entry_behind : (es : Keys) (e : Entry) → behind_entry (moved_keys es) e ≡ moved_keys (behind_entry es e)
-  entry_behind es e = noted es (entry_key e).text (with_entry e) (with_entry e) (λ f. refl)
+  pub entry_after : (es : Keys) (e : Entry) → following_entry (moved_keys es) e ≡ moved_keys (following_entry es e)
+  entry_after es e = noted es (entry_key e).text (with_entry e) (with_entry e) (λ f. refl)
 
-  clause_behind : (es : Keys) (cs : List Entry) → behind_clause (moved_keys es) cs ≡ moved_keys (behind_clause es cs)
-  clause_behind es [] = refl
-  clause_behind es (c ∷ cs) = ap (λ x. behind_clause x cs) (entry_behind es c) ∙ clause_behind (behind_entry es c) cs
+  clause_after : (es : Keys) (cs : List Entry) → following_clause (moved_keys es) cs ≡ moved_keys (following_clause es cs)
+  clause_after es [] = refl
+  clause_after es (c ∷ cs) = ap (λ x. following_clause x cs) (entry_after es c) ∙ clause_after (following_entry es c) cs
 
   first_typed : (o : Option Typing) (t at : ℕ) → typed_first (option_map moved_typing o) (m.types t) at ≡ option_map moved_typing (typed_first o t at)
   first_typed None t at = refl
   first_typed (Some had) t at = refl
 
-  typing_behind : (es : Keys) (w : Wanted) (k : List ℕ) (at : ℕ) → behind_typing (moved_keys es) (moved_wanted m w) k at ≡ moved_keys (behind_typing es w k at)
-  typing_behind es wanted.Any k at = refl
-  typing_behind es wanted.Unknown k at = refl
-  typing_behind es (wanted.OfType t) k at =
+  typing_after : (es : Keys) (w : Wanted) (k : List ℕ) (at : ℕ) → after_typing (moved_keys es) (moved_wanted m w) k at ≡ moved_keys (after_typing es w k at)
+  typing_after es wanted.Any k at = refl
+  typing_after es wanted.Unknown k at = refl
+  typing_after es (wanted.OfType t) k at =
       noted es k (with_typing t at) (with_typing (m.types t) at) (λ f. ap (λ (o : Option Typing). let r : Facts = record f { typing = o } in r) (first_typed f.typing t at))
 
-  pub use_behind : (es : Keys) (u : KeyUse) → behind_use (moved_keys es) (moved_use m u) ≡ moved_keys (behind_use es u)
-  use_behind es u = typing_behind es u.wanted u.key u.at
+  pub use_after : (es : Keys) (u : KeyUse) → after_use (moved_keys es) (moved_use m u) ≡ moved_keys (after_use es u)
+  use_after es u = typing_after es u.wanted u.key u.at
 
-  fresh_behind : (es : Keys) (u : KeyUse) → behind_fresh (moved_keys es) (moved_use m u) ≡ moved_keys (behind_fresh es u)
-  fresh_behind es u =
-      ap₂ (λ (x : Bool) y. if x then y else moved_keys es) (ap (λ f. if u.tracked then f.is_fresh else false) (facts_move es u.key)) (use_behind es u) ∙ by (gives_type es u)
+  fresh_after : (es : Keys) (u : KeyUse) → after_fresh (moved_keys es) (moved_use m u) ≡ moved_keys (after_fresh es u)
+  fresh_after es u =
+      ap₂ (λ (x : Bool) y. if x then y else moved_keys es) (ap (λ f. if u.tracked then f.is_fresh else false) (facts_move es u.key)) (use_after es u) ∙ by (gives_type es u)
     where
-      by : (x : Bool) → (if x then moved_keys (behind_use es u) else moved_keys es) ≡ moved_keys (if x then behind_use es u else es)
+      by : (x : Bool) → (if x then moved_keys (after_use es u) else moved_keys es) ≡ moved_keys (if x then after_use es u else es)
       by true = refl
       by false = refl
 
   pub fresh_move : (es : Keys) (us : List KeyUse) → fresh_typed (moved_keys es) (map (moved_use m) us) ≡ moved_keys (fresh_typed es us)
   fresh_move es [] = refl
-  fresh_move es (u ∷ us) = ap (λ x. fresh_typed x (map (moved_use m) us)) (fresh_behind es u) ∙ fresh_move (behind_fresh es u) us
+  fresh_move es (u ∷ us) = ap (λ x. fresh_typed x (map (moved_use m) us)) (fresh_after es u) ∙ fresh_move (after_fresh es u) us
 
   typed_move : (es : Keys) (us : List KeyUse) → parameters_typed (moved_keys es) (map (moved_use m) us) ≡ moved_keys (parameters_typed es us)
   typed_move es [] = refl
-  typed_move es (u ∷ us) = ap (λ x. parameters_typed x (map (moved_use m) us)) (use_behind es u) ∙ typed_move (behind_use es u) us
+  typed_move es (u ∷ us) = ap (λ x. parameters_typed x (map (moved_use m) us)) (use_after es u) ∙ typed_move (after_use es u) us
 
-  pub places_move : (rs ps : List KeyUse) (cs : List Entry) → places_behind (map (moved_use m) rs) (map (moved_use m) ps) cs ≡ moved_keys (places_behind rs ps cs)
-  unfolding places_behind
+  pub places_move : (rs ps : List KeyUse) (cs : List Entry) → places_after (map (moved_use m) rs) (map (moved_use m) ps) cs ≡ moved_keys (places_after rs ps cs)
+  unfolding places_after
   places_move rs ps cs =
-      ap (λ x. behind_clause (behind_parameters x (map (moved_use m) ps)) cs) (results_behind [] rs) ∙
-      (ap (λ x. behind_clause x cs) (parameters_behind (behind_result [] rs) ps) ∙ clause_behind (behind_parameters (behind_result [] rs) ps) cs)
+      ap (λ x. following_clause (after_parameters x (map (moved_use m) ps)) cs) (results_after [] rs) ∙
+      (ap (λ x. following_clause x cs) (parameters_after (following_result [] rs) ps) ∙ clause_after (after_parameters (following_result [] rs) ps) cs)
 
-  pub keys_move : (rs ps : List KeyUse) (cs : List Entry) → keys_behind (map (moved_use m) rs) (map (moved_use m) ps) cs ≡ moved_keys (keys_behind rs ps cs)
-  unfolding keys_behind typed_keys
+  pub keys_move : (rs ps : List KeyUse) (cs : List Entry) → keys_after (map (moved_use m) rs) (map (moved_use m) ps) cs ≡ moved_keys (keys_after rs ps cs)
+  unfolding keys_after typed_keys
   keys_move rs ps cs =
       ap (λ x. parameters_typed (fresh_typed x (map (moved_use m) rs)) (map (moved_use m) ps)) (places_move rs ps cs) ∙
-      (ap (λ x. parameters_typed x (map (moved_use m) ps)) (fresh_move (places_behind rs ps cs) rs) ∙ typed_move (fresh_typed (places_behind rs ps cs) rs) ps)
+      (ap (λ x. parameters_typed x (map (moved_use m) ps)) (fresh_move (places_after rs ps cs) rs) ∙ typed_move (fresh_typed (places_after rs ps cs) rs) ps)
 
   -- ---- what a head becomes
 
@@ -165,7 +165,7 @@ module _ (m : Moves) where
     pub head_keys_move : (h : Head) → types_refused a.file h ≡ [] → keys_of b.file h ≡ moved_keys (keys_of a.file h)
     unfolding types_refused
     head_keys_move h none =
-        ap₂ (λ rs ps. keys_behind rs ps (clause_in h.clause)) (result_uses_move h.result_type (no_left (result_type_refused a.file h.result_type) _ none)) (parameter_uses_move h.parameters (no_right (result_type_refused a.file h.result_type) _ none)) ∙
+        ap₂ (λ rs ps. keys_after rs ps (clause_in h.clause)) (result_uses_move h.result_type (no_left (result_type_refused a.file h.result_type) _ none)) (parameter_uses_move h.parameters (no_right (result_type_refused a.file h.result_type) _ none)) ∙
         keys_move (result_uses a.file h.result_type) (parameter_uses a.file h.parameters) (clause_in h.clause)
 
     -- the states of a type, there or not

@@ -15,15 +15,15 @@ pub stands_apart : (is : Decl → Bool) (js : Joins) (i k : ℕ) → at_in is js
 stands_apart is [] i k e = e
 stands_apart is (j ∷ js) i k e = by (is j.after) (stands_apart is js) e
   where
-    behind : (o : Option Decl) (i k : ℕ) → ((i k : ℕ) → at_in is js i ≡ at_in is js k → i ≡ k) → counted (at_in is js) o i ≡ counted (at_in is js) o k → i ≡ k
-    behind None i k rest e = rest i k (suc_same _ _ e)
-    behind (Some d) zero zero rest e = refl
-    behind (Some d) zero (suc k) rest e = absurd (omega (arith, e))
-    behind (Some d) (suc i) zero rest e = absurd (omega (arith, e))
-    behind (Some d) (suc i) (suc k) rest e = ap suc (rest i k (suc_same _ _ e))
+    following : (o : Option Decl) (i k : ℕ) → ((i k : ℕ) → at_in is js i ≡ at_in is js k → i ≡ k) → counted (at_in is js) o i ≡ counted (at_in is js) o k → i ≡ k
+    following None i k rest e = rest i k (suc_same _ _ e)
+    following (Some d) zero zero rest e = refl
+    following (Some d) zero (suc k) rest e = absurd (omega (arith, e))
+    following (Some d) (suc i) zero rest e = absurd (omega (arith, e))
+    following (Some d) (suc i) (suc k) rest e = ap suc (rest i k (suc_same _ _ e))
 
     by : (x : Bool) → ((i k : ℕ) → at_in is js i ≡ at_in is js k → i ≡ k) → (if x then counted (at_in is js) j.before i else at_in is js i) ≡ (if x then counted (at_in is js) j.before k else at_in is js k) → i ≡ k
-    by true rest e = behind j.before i k rest e
+    by true rest e = following j.before i k rest e
     by false rest e = rest i k e
 
 pub apart : (is : Decl → Bool) (js : Joins) (t u : ℕ) → (at_in is js t == at_in is js u) ≡ (t == u)
@@ -65,11 +65,11 @@ module _ {X Y : Type 0} (P : X → Y → Type 0) (f : Decl → List X) (g : Decl
   gives_both : (d e : Decl) (b : Bool) → is e ≡ b → GivesBoth P (is e) (f d) (g e) → GivesBoth P b (f d) (g e)
   gives_both d e b same h = subst (λ b. GivesBoth P b (f d) (g e)) same h
 
-  -- what stands behind one more
-  behind : (e : Decl) (js : Joins) (o : Option Decl) (b : Bool) (ys : List Y) (i : ℕ) → is e ≡ b → g e ≡ ys →
+  -- what stands after one more
+  following : (e : Decl) (js : Joins) (o : Option Decl) (b : Bool) (ys : List Y) (i : ℕ) → is e ≡ b → g e ≡ ys →
       slice_get (of_each g (afters (record { before = o; after = e } ∷ js))) (at_in is (record { before = o; after = e } ∷ js) i) ≡
       slice_get (ys ++ of_each g (afters js)) (if b then counted (at_in is js) o i else at_in is js i)
-  behind e js o b ys i same gives = ap₂ (λ b ys. slice_get (ys ++ of_each g (afters js)) (if b then counted (at_in is js) o i else at_in is js i)) same gives
+  following e js o b ys i same gives = ap₂ (λ b ys. slice_get (ys ++ of_each g (afters js)) (if b then counted (at_in is js) o i else at_in is js i)) same gives
 
   step : (o : Option Decl) (e : Decl) (b : Bool) → is e ≡ b → (js : Joins) → JoinGives (record { before = o; after = e }) →
       ((i : ℕ) (x : X) → slice_get (of_each f (befores js)) i ≡ Some x → Stands js i x) → (i : ℕ) (x : X) →
@@ -77,22 +77,22 @@ module _ {X Y : Type 0} (P : X → Y → Type 0) (f : Decl → List X) (g : Decl
   step None e true same js h rest i x at =
       let y = gives_one e true same h in
       let r = rest i x at in
-      record { thing = r.thing; there = behind e js None true (y.0 ∷ []) i same y.1 ∙ r.there; fits = r.fits }
+      record { thing = r.thing; there = following e js None true (y.0 ∷ []) i same y.1 ∙ r.there; fits = r.fits }
   step None e false same js h rest i x at =
       let r = rest i x at in
-      record { thing = r.thing; there = behind e js None false [] i same (gives_one e false same h) ∙ r.there; fits = r.fits }
+      record { thing = r.thing; there = following e js None false [] i same (gives_one e false same h) ∙ r.there; fits = r.fits }
   step (Some d) e true same js h rest zero x at =
       let y = gives_both d e true same h in
       let is_it = same_Some y.0 x (sym (ap (λ xs. slice_get (xs ++ of_each f (befores js)) zero) y.2) ∙ at) in
-      record { thing = y.1; there = behind e js (Some d) true (y.1 ∷ []) zero same y.3; fits = subst (λ x. P x y.1) is_it y.4 }
+      record { thing = y.1; there = following e js (Some d) true (y.1 ∷ []) zero same y.3; fits = subst (λ x. P x y.1) is_it y.4 }
   step (Some d) e true same js h rest (suc i) x at =
       let y = gives_both d e true same h in
       let r = rest i x (sym (ap (λ xs. slice_get (xs ++ of_each f (befores js)) (suc i)) y.2) ∙ at) in
-      record { thing = r.thing; there = behind e js (Some d) true (y.1 ∷ []) (suc i) same y.3 ∙ r.there; fits = r.fits }
+      record { thing = r.thing; there = following e js (Some d) true (y.1 ∷ []) (suc i) same y.3 ∙ r.there; fits = r.fits }
   step (Some d) e false same js h rest i x at =
       let y = gives_both d e false same h in
       let r = rest i x (sym (ap (λ xs. slice_get (xs ++ of_each f (befores js)) i) y.0) ∙ at) in
-      record { thing = r.thing; there = behind e js (Some d) false [] i same y.1 ∙ r.there; fits = r.fits }
+      record { thing = r.thing; there = following e js (Some d) false [] i same y.1 ∙ r.there; fits = r.fits }
 
   -- each thing of the first list stands in the second
   pub stands : (js : Joins) → Each JoinGives js → (i : ℕ) (x : X) → slice_get (of_each f (befores js)) i ≡ Some x → Stands js i x
@@ -103,16 +103,16 @@ module _ {X Y : Type 0} (P : X → Y → Type 0) (f : Decl → List X) (g : Decl
       ((i : ℕ) → slice_get (of_each f (befores js)) i ≡ None → slice_get (of_each g (afters js)) (at_in is js i) ≡ None) → (i : ℕ) →
       slice_get (of_each f (befores (record { before = o; after = e } ∷ js))) i ≡ None →
       slice_get (of_each g (afters (record { before = o; after = e } ∷ js))) (at_in is (record { before = o; after = e } ∷ js) i) ≡ None
-  past_step None e true same js h rest i at = let y = gives_one e true same h in behind e js None true (y.0 ∷ []) i same y.1 ∙ rest i at
-  past_step None e false same js h rest i at = behind e js None false [] i same (gives_one e false same h) ∙ rest i at
+  past_step None e true same js h rest i at = let y = gives_one e true same h in following e js None true (y.0 ∷ []) i same y.1 ∙ rest i at
+  past_step None e false same js h rest i at = following e js None false [] i same (gives_one e false same h) ∙ rest i at
   past_step (Some d) e true same js h rest zero at =
       let y = gives_both d e true same h in absurd (none-some y.0 (sym at ∙ ap (λ xs. slice_get (xs ++ of_each f (befores js)) zero) y.2))
   past_step (Some d) e true same js h rest (suc i) at =
       let y = gives_both d e true same h in
-      behind e js (Some d) true (y.1 ∷ []) (suc i) same y.3 ∙ rest i (sym (ap (λ xs. slice_get (xs ++ of_each f (befores js)) (suc i)) y.2) ∙ at)
+      following e js (Some d) true (y.1 ∷ []) (suc i) same y.3 ∙ rest i (sym (ap (λ xs. slice_get (xs ++ of_each f (befores js)) (suc i)) y.2) ∙ at)
   past_step (Some d) e false same js h rest i at =
       let y = gives_both d e false same h in
-      behind e js (Some d) false [] i same y.1 ∙ rest i (sym (ap (λ xs. slice_get (xs ++ of_each f (befores js)) i) y.0) ∙ at)
+      following e js (Some d) false [] i same y.1 ∙ rest i (sym (ap (λ xs. slice_get (xs ++ of_each f (befores js)) i) y.0) ∙ at)
 
   -- and where nothing is in the first, nothing stands in the second
   pub stays_past : (js : Joins) → Each JoinGives js → (i : ℕ) → slice_get (of_each f (befores js)) i ≡ None → slice_get (of_each g (afters js)) (at_in is js i) ≡ None

@@ -9,7 +9,7 @@ use Rattle.vlt_syntax.specs.Tree.{Decl}
 use Rattle.vlt_link_laws.specs.CoreMoves.Moves.{Moves}
 use Rattle.vlt_kinds_types.specs.declared.names.globals.Entity.{Entity}
 use Rattle.vlt_kinds_types.specs.declared.names.globals.Entity.TheVariants.{ASet, AType, AFunction}
-use Rattle.vlt_kinds_types.specs.Names.Globals.{Globals, global_in, is_global, decl_name, Counts, global_of, counts_after, with_declared, globals_behind, no_counts, globals_of}
+use Rattle.vlt_kinds_types.specs.Names.Globals.{Globals, global_in, is_global, decl_name, Counts, global_of, counts_after, with_declared, globals_after, no_counts, globals_of}
 use Rattle.vlt_link_laws.specs.Moves.Joins.{Joins, befores, afters, counted, at_in, is_set, is_type, is_function, moves_of}
 use Rattle.vlt_link_laws.specs.Moves.Sees.{moved_global}
 
@@ -36,7 +36,7 @@ or_none (Some g) = refl
 
 module _ (eq : (n k : List ℕ) → bytes_eq n k ≡ true → n ≡ k) where
   -- what is known before, or the first declaration
-  looked_up : (known : Globals) (c : Counts) (ds : List Decl) (n : List ℕ) → global_in (globals_behind known c ds) n ≡ or_else (global_in known n) (first_in c ds n)
+  looked_up : (known : Globals) (c : Counts) (ds : List Decl) (n : List ℕ) → global_in (globals_after known c ds) n ≡ or_else (global_in known n) (first_in c ds n)
   looked_up known c [] n = sym (or_none (global_in known n))
   looked_up known c (d ∷ ds) n = looked_up (with_declared known c d) (counts_after c d) ds n ∙ by (is_global known (decl_name d).text) refl
     where

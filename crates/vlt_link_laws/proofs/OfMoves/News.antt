@@ -156,7 +156,7 @@ module _ (m : Moves) where
           (ap₂ (λ (l : ℕ) x. if l == length n.keys then x else None) (ap length k.is.header ∙ length-map k.shape.header (moved_wanted m)) (known_keys_same scope n.keys) ∙
           sym (ap (λ o. keys_of_shape o scope n.keys) k.shaped))
 
-      -- all keys behind a name that isn't refused are in scope
+      -- all keys after a name that isn't refused are in scope
       argument_known : (ws : List Wanted) (ks : List Name) → length ws ≡ length ks → of_each (use_refused scope) (argument_uses ws ks) ≡ [] → (args : List ℕ) × (known_keys scope ks ≡ Some args)
       unfolding use_refused
       argument_known [] [] l none = ([], refl)

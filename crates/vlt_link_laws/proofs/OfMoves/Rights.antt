@@ -161,7 +161,7 @@ module _ (m : Moves) where
     unfolding declared_ty key_named
     declared_moves scope t none = core_moves m a b sees (key_number scope) t none
 
-    -- behind the type, in the scope with the key
+    -- after the type, in the scope with the key
     record IsDeclared (scope : Scope) (t : Target) (x : Name) (right : Right) (at : ℕ) : Type 0 where
       fine : declared_refused b (moved_scope m scope) (moved_target m t) x right at ≡ []
       core : hidden_became b (moved_scope m scope) (moved_target m t) x right ≡ moved_became (hidden_became a scope t x right)

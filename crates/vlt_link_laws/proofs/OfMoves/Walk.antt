@@ -11,7 +11,7 @@ use Rattle.vlt_kinds_types.specs.declared.names.found.Refusal.{Refusal}
 use Rattle.vlt_kinds_types.specs.Names.Refusals.{is_before, least_from}
 use Rattle.vlt_kinds.specs.Kinds.{Kinds}
 use Rattle.vlt_resolve_exprs.specs.Refused.{unknown_name}
-use Rattle.vlt_resolve_exprs.specs.Scopes.{Scope, var_named, var_ty, scope_inside, scope_behind, bound_in}
+use Rattle.vlt_resolve_exprs.specs.Scopes.{Scope, var_named, var_ty, scope_inside, scope_after, bound_in}
 use Rattle.vlt_resolve_exprs.specs.Exprs.{wanted_refused, core_expr, number_of, var_number}
 use Rattle.vlt_resolve_calls.specs.Builds.{Case}
 use Rattle.vlt_resolve_stmts.specs.Around.{Around, inside_loop, inside_focus}
@@ -31,7 +31,7 @@ use Rattle.vlt_link_laws.proofs.OfMoves.Exprs.{known_name}
 use Rattle.vlt_link_laws.proofs.OfMoves.Builds.{moved_the_case}
 use Rattle.vlt_link_laws.proofs.OfMoves.Rights.{moved_became}
 use Rattle.vlt_link_laws.proofs.OfMoves.Statements.{wanted_fine, wanted_core, IsTyped, simple_fine, simple_core}
-use Rattle.vlt_link_laws.proofs.OfMoves.Whole.{typed_name, whole_focus_key, whole_with_var, whole_several, whole_inside, whole_behind, whole_simple}
+use Rattle.vlt_link_laws.proofs.OfMoves.Whole.{typed_name, whole_focus_key, whole_with_var, whole_several, whole_inside, whole_after, whole_simple}
 use Rattle.vlt_link_laws.proofs.OfMoves.Switches.{IsCovered, switch_covered, switch_fine, arm_case_moves, arm_fine, arm_scope_moves, same_arm_numbers, bound_moves, focus_fine}
 
 -- ---- results
@@ -219,13 +219,13 @@ module _ (m : Moves) where
           let l = least_none found (focus_refused a (scope_inside scope) ty y k z) u.0 in
           let part = then_ok (walk_stmts a (inside_focus around) inner false ss) _ r u.1 in
           let c2 = stmts_go (inside_focus around) inner false ss part.0 apt.1 (whole_bound (scope_inside scope) ty k z (whole_inside scope w)) part.1 in
-          let o = one_goes (core.focus (var_number (moved_scope m scope) y) (length (map (moved_var m) scope.vars)) (block_made (moved_walked m part.0) (close.to - 1))) (core.focus (var_number scope y) (length scope.vars) (block_made part.0 (close.to - 1))) (scope_behind scope part.0.1) r
-          (whole_behind scope part.0.1 c2.1)
+          let o = one_goes (core.focus (var_number (moved_scope m scope) y) (length (map (moved_var m) scope.vars)) (block_made (moved_walked m part.0) (close.to - 1))) (core.focus (var_number scope y) (length scope.vars) (block_made part.0 (close.to - 1))) (scope_after scope part.0.1) r
+          (whole_after scope part.0.1 c2.1)
           (ap₂ (λ v n. core.focus v n (block_made (moved_walked m part.0) (close.to - 1))) (same_number scope y) (length-map scope.vars (moved_var m)) ∙ ap (core.focus (var_number scope y) (length scope.vars)) (block_made_moves part.0 (close.to - 1))) part.2 in (
-            ap (λ o. unless_refused (least_from found (focus_refused b (scope_inside (moved_scope m scope)) o y k z)) (then_do (walk_stmts b (inside_focus (moved_around m around)) (bound_scope (scope_inside (moved_scope m scope)) o k z) false ss) (λ w. one (core.focus (var_number (moved_scope m scope) y) (length (map (moved_var m) scope.vars)) (block_made w (close.to - 1))) (scope_behind (moved_scope m scope) w.1)))) (ty_moves m scope y.text) ∙
-                (ap (λ f. unless_refused f (then_do (walk_stmts b (inside_focus (moved_around m around)) (bound_scope (scope_inside (moved_scope m scope)) (option_map (moved_ty m) ty) k z) false ss) (λ w. one (core.focus (var_number (moved_scope m scope) y) (length (map (moved_var m) scope.vars)) (block_made w (close.to - 1))) (scope_behind (moved_scope m scope) w.1)))) (calm found _ l.0 (focus_fine m a b sees (scope_inside scope) ty y k z apt.0 l.1)) ∙
-                (ap (λ sc. then_do (walk_stmts b (inside_focus (moved_around m around)) sc false ss) (λ w. one (core.focus (var_number (moved_scope m scope) y) (length (map (moved_var m) scope.vars)) (block_made w (close.to - 1))) (scope_behind (moved_scope m scope) w.1))) (sym (bound_moves m a b sees (scope_inside scope) ty y k z l.1)) ∙
-                (ap (λ r. then_do r (λ w. one (core.focus (var_number (moved_scope m scope) y) (length (map (moved_var m) scope.vars)) (block_made w (close.to - 1))) (scope_behind (moved_scope m scope) w.1))) c2.0 ∙ o.0))),
+            ap (λ o. unless_refused (least_from found (focus_refused b (scope_inside (moved_scope m scope)) o y k z)) (then_do (walk_stmts b (inside_focus (moved_around m around)) (bound_scope (scope_inside (moved_scope m scope)) o k z) false ss) (λ w. one (core.focus (var_number (moved_scope m scope) y) (length (map (moved_var m) scope.vars)) (block_made w (close.to - 1))) (scope_after (moved_scope m scope) w.1)))) (ty_moves m scope y.text) ∙
+                (ap (λ f. unless_refused f (then_do (walk_stmts b (inside_focus (moved_around m around)) (bound_scope (scope_inside (moved_scope m scope)) (option_map (moved_ty m) ty) k z) false ss) (λ w. one (core.focus (var_number (moved_scope m scope) y) (length (map (moved_var m) scope.vars)) (block_made w (close.to - 1))) (scope_after (moved_scope m scope) w.1)))) (calm found _ l.0 (focus_fine m a b sees (scope_inside scope) ty y k z apt.0 l.1)) ∙
+                (ap (λ sc. then_do (walk_stmts b (inside_focus (moved_around m around)) sc false ss) (λ w. one (core.focus (var_number (moved_scope m scope) y) (length (map (moved_var m) scope.vars)) (block_made w (close.to - 1))) (scope_after (moved_scope m scope) w.1))) (sym (bound_moves m a b sees (scope_inside scope) ty y k z l.1)) ∙
+                (ap (λ r. then_do r (λ w. one (core.focus (var_number (moved_scope m scope) y) (length (map (moved_var m) scope.vars)) (block_made w (close.to - 1))) (scope_after (moved_scope m scope) w.1))) c2.0 ∙ o.0))),
             o.1,
           )
       stmt_goes around scope found (s.declare t x right at) y apt w e = simple_goes around scope found (s.declare t x right at) y apt w e
@@ -246,10 +246,10 @@ module _ (m : Moves) where
       block_goes around scope (s.braced ss at) y apt w e =
           let part = then_ok (walk_stmts a around (scope_inside scope) false ss) _ y e in
           let c = stmts_go around (scope_inside scope) false ss part.0 apt (whole_inside scope w) part.1 in
-          let is = same_ok (block_made part.0 (at.to - 1), scope_behind scope part.0.1) y part.2 in (
-            ap (λ r. then_do r (λ y. Ok (block_made y (at.to - 1), scope_behind (moved_scope m scope) y.1))) c.0 ∙
-                (ap (λ x. Ok (x, moved_scope m (scope_behind scope part.0.1))) (block_made_moves part.0 (at.to - 1)) ∙ ap (λ y. Ok (moved_blocked y)) is),
-            subst (λ y. IsWhole y.1) is (whole_behind scope part.0.1 c.1),
+          let is = same_ok (block_made part.0 (at.to - 1), scope_after scope part.0.1) y part.2 in (
+            ap (λ r. then_do r (λ y. Ok (block_made y (at.to - 1), scope_after (moved_scope m scope) y.1))) c.0 ∙
+                (ap (λ x. Ok (x, moved_scope m (scope_after scope part.0.1))) (block_made_moves part.0 (at.to - 1)) ∙ ap (λ y. Ok (moved_blocked y)) is),
+            subst (λ y. IsWhole y.1) is (whole_after scope part.0.1 c.1),
           )
 
       if_goes : (around : Around) (scope : Scope) (found : Option Refusal) (i : If) (y : Became) → IsAptIf a b i → IsWhole scope → walk_if a around scope found i ≡ Ok y →
@@ -308,17 +308,17 @@ module _ (m : Moves) where
           let l = least_none None (arm_refused a inside (Some c) tick vs) u.0 in
           let body = then_ok (walk_stmts a around (arm_scope inside (Some c) vs) false ss) _ first.0 u.1 in
           let c1 = stmts_go around (arm_scope inside (Some c) vs) false ss body.0 apt.1 (whole_arm inside c vs (whole_inside scope w)) body.1 in
-          let here = same_ok ((case_number (Some c), arm_numbers inside (Some c) vs, block_made body.0 (at.to - 1)), scope_behind scope body.0.1) first.0 body.2 in
-          let whole = subst (λ y. IsWhole y.1) here (whole_behind scope body.0.1 c1.1) in
+          let here = same_ok ((case_number (Some c), arm_numbers inside (Some c) vs, block_made body.0 (at.to - 1)), scope_after scope body.0.1) first.0 body.2 in
+          let whole = subst (λ y. IsWhole y.1) here (whole_after scope body.0.1 c1.1) in
           let second = then_ok (walk_arms a around first.0.1 ty rest) _ y first.2 in
           let c2 = arms_go around first.0.1 ty rest second.0 apt.2 covered.1 whole second.1 in
           let is = same_ok (first.0.0 ∷ second.0.0, second.0.1) y second.2 in
           let arm_there : walk_arm b (moved_around m around) (moved_scope m scope) (arm_case b (option_map (moved_ty m) ty) tick) tick vs (s.braced ss at) ≡ Ok (moved_armed first.0) =
           ap (λ o. walk_arm b (moved_around m around) (moved_scope m scope) o tick vs (s.braced ss at)) (arm_case_moves m a b sees ty tick c covered.0.1) ∙
-          (ap (λ f. unless_refused f (then_do (walk_stmts b (moved_around m around) (arm_scope (scope_inside (moved_scope m scope)) (Some (moved_the_case m a b sees c)) vs) false ss) (λ y. Ok ((case_number (Some (moved_the_case m a b sees c)), arm_numbers (scope_inside (moved_scope m scope)) (Some (moved_the_case m a b sees c)) vs, block_made y (at.to - 1)), scope_behind (moved_scope m scope) y.1)))) (calm None _ refl (arm_fine m a b sees inside c tick vs apt.0 l.1)) ∙
-          (ap (λ sc. then_do (walk_stmts b (moved_around m around) sc false ss) (λ y. Ok ((case_number (Some (moved_the_case m a b sees c)), arm_numbers (scope_inside (moved_scope m scope)) (Some (moved_the_case m a b sees c)) vs, block_made y (at.to - 1)), scope_behind (moved_scope m scope) y.1))) (sym (arm_scope_moves m a b sees inside c vs)) ∙
-          (ap (λ r. then_do r (λ y. Ok ((case_number (Some (moved_the_case m a b sees c)), arm_numbers (scope_inside (moved_scope m scope)) (Some (moved_the_case m a b sees c)) vs, block_made y (at.to - 1)), scope_behind (moved_scope m scope) y.1))) c1.0 ∙
-          (ap₂ (λ (ns : List ℕ) (x : core.Block). Ok ((c.number, ns, x), moved_scope m (scope_behind scope body.0.1))) (same_arm_numbers m a b sees inside c vs) (block_made_moves body.0 (at.to - 1)) ∙
+          (ap (λ f. unless_refused f (then_do (walk_stmts b (moved_around m around) (arm_scope (scope_inside (moved_scope m scope)) (Some (moved_the_case m a b sees c)) vs) false ss) (λ y. Ok ((case_number (Some (moved_the_case m a b sees c)), arm_numbers (scope_inside (moved_scope m scope)) (Some (moved_the_case m a b sees c)) vs, block_made y (at.to - 1)), scope_after (moved_scope m scope) y.1)))) (calm None _ refl (arm_fine m a b sees inside c tick vs apt.0 l.1)) ∙
+          (ap (λ sc. then_do (walk_stmts b (moved_around m around) sc false ss) (λ y. Ok ((case_number (Some (moved_the_case m a b sees c)), arm_numbers (scope_inside (moved_scope m scope)) (Some (moved_the_case m a b sees c)) vs, block_made y (at.to - 1)), scope_after (moved_scope m scope) y.1))) (sym (arm_scope_moves m a b sees inside c vs)) ∙
+          (ap (λ r. then_do r (λ y. Ok ((case_number (Some (moved_the_case m a b sees c)), arm_numbers (scope_inside (moved_scope m scope)) (Some (moved_the_case m a b sees c)) vs, block_made y (at.to - 1)), scope_after (moved_scope m scope) y.1))) c1.0 ∙
+          (ap₂ (λ (ns : List ℕ) (x : core.Block). Ok ((c.number, ns, x), moved_scope m (scope_after scope body.0.1))) (same_arm_numbers m a b sees inside c vs) (block_made_moves body.0 (at.to - 1)) ∙
           ap (λ y. Ok (moved_armed y)) here)))) in (
             ap (λ r. then_do r (λ y. then_do (walk_arms b (moved_around m around) y.1 (option_map (moved_ty m) ty) rest) (λ z. Ok (y.0 ∷ z.0, z.1)))) arm_there ∙
                 (ap (λ r. then_do r (λ z. Ok (moved_arm first.0.0 ∷ z.0, z.1))) c2.0 ∙ ap (λ y. Ok (moved_arms_walked y)) is),

@@ -10,7 +10,7 @@ use Rattle.vlt_core.specs.Core.{Tok, a_key, a_var, Ty}
 use Rattle.vlt_kinds.specs.Kinds.{Kinds}
 use Rattle.vlt_kinds_types.specs.Files.{type_named}
 use Rattle.vlt_resolve_exprs.specs.Types.{then_with}
-use Rattle.vlt_resolve_exprs.specs.Scopes.{Scope, as_var, tok_named, var_named, ty_in, var_ty, more_key, more_var, with_key, with_var, with_focus_key, scope_inside, scope_behind}
+use Rattle.vlt_resolve_exprs.specs.Scopes.{Scope, as_var, tok_named, var_named, ty_in, var_ty, more_key, more_var, with_key, with_var, with_focus_key, scope_inside, scope_after}
 use Rattle.vlt_resolve_exprs.specs.Bindings.{with_vars, with_several}
 use Rattle.vlt_resolve_rights.specs.News.{hides, with_object, with_hidden}
 use Rattle.vlt_resolve_stmts.specs.Around.{Around}
@@ -104,8 +104,8 @@ whole_several scope ns ts w = by (length ts == length ns)
 pub whole_inside : (scope : Scope) → IsWhole scope → IsWhole (scope_inside scope)
 whole_inside scope w = record { each = w.each }
 
-pub whole_behind : (before last : Scope) → IsWhole last → IsWhole (scope_behind before last)
-whole_behind before last w = record { each = taken (length last.vars) (length before.names) last.names w.each }
+pub whole_after : (before last : Scope) → IsWhole last → IsWhole (scope_after before last)
+whole_after before last w = record { each = taken (length last.vars) (length before.names) last.names w.each }
 
 -- ---- statements
 

@@ -62,17 +62,17 @@ module _ (d : ℕ) where
   deliver_at f None a frame w e = e
   deliver_at f (Some v) a frame w e = found_at _ w _ (λ b. fill_at f v b frame w e)
 
-  -- what comes behind a frame of the depth
-  abbrev pub Behind : (Frame → World → Step) → Type 0
-  Behind go = (frame : Frame) (w : World) → frame.depth ≡ d → IsAt d (go frame w)
+  -- what comes after a frame of the depth
+  abbrev pub Following : (Frame → World → Step) → Type 0
+  Following go = (frame : Frame) (w : World) → frame.depth ≡ d → IsAt d (go frame w)
 
-  operand_at : (p : Program) (f : Func) (o : Operand) (frame : Frame) (w : World) (go : Value → Frame → World → Step) → frame.depth ≡ d → ((a : Value) → Behind (go a)) → IsAt d (with_operand p f o frame w go)
+  operand_at : (p : Program) (f : Func) (o : Operand) (frame : Frame) (w : World) (go : Value → Frame → World → Step) → frame.depth ≡ d → ((a : Value) → Following (go a)) → IsAt d (with_operand p f o frame w go)
   unfolding with_operand
   operand_at p f (pure x) frame w go e h = found_at _ w _ (λ a. h a frame w e)
   operand_at p f (move v) frame w go e h = found_at _ w _ (λ a. h a _ w e)
   operand_at p f (pack x states) frame w go e h = found_at _ w _ (λ n. h _ frame _ e)
 
-  operands_at : (p : Program) (f : Func) (os : List Operand) (frame : Frame) (w : World) (go : List Value → Frame → World → Step) → frame.depth ≡ d → ((a : List Value) → Behind (go a)) → IsAt d (with_operands p f os frame w go)
+  operands_at : (p : Program) (f : Func) (os : List Operand) (frame : Frame) (w : World) (go : List Value → Frame → World → Step) → frame.depth ≡ d → ((a : List Value) → Following (go a)) → IsAt d (with_operands p f os frame w go)
   unfolding with_operands
   operands_at p f [] frame w go e h = h [] frame w e
   operands_at p f (o ∷ os) frame w go e h =
@@ -107,12 +107,12 @@ module _ (d : ℕ) where
   pieces_at heap [] ps w go h = h [] w
   pieces_at heap (ty ∷ ts) [] w go h = h [] w
 
-  fresh_at : (heap ty : ℕ) (b : Option Binding) (frame : Frame) (w : World) (go : Option Value → Frame → World → Step) → frame.depth ≡ d → ((a : Option Value) → Behind (go a)) → IsAt d (with_fresh heap ty b frame w go)
+  fresh_at : (heap ty : ℕ) (b : Option Binding) (frame : Frame) (w : World) (go : Option Value → Frame → World → Step) → frame.depth ≡ d → ((a : Option Value) → Following (go a)) → IsAt d (with_fresh heap ty b frame w go)
   unfolding with_fresh
   fresh_at heap ty None frame w go e h = h None frame w e
   fresh_at heap ty (Some b) frame w go e h = made_at heap _ w _ (λ n v. h _ _ v e)
 
-  result_at : (heap : ℕ) (p : Program) (g : Func) (keys ss : List ℕ) (r : answers.Result) (frame : Frame) (w : World) (go : Option Value → Frame → World → Step) → frame.depth ≡ d → ((a : Option Value) → Behind (go a)) → IsAt d (with_result heap p g keys ss r frame w go)
+  result_at : (heap : ℕ) (p : Program) (g : Func) (keys ss : List ℕ) (r : answers.Result) (frame : Frame) (w : World) (go : Option Value → Frame → World → Step) → frame.depth ≡ d → ((a : Option Value) → Following (go a)) → IsAt d (with_result heap p g keys ss r frame w go)
   unfolding with_result
   result_at heap p g keys ss nothing frame w go e h = fresh_at heap _ _ frame w go e h
   result_at heap p g keys ss (piece (plain z)) frame w go e h = h _ frame w e

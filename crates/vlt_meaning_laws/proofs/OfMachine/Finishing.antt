@@ -17,7 +17,7 @@ use Rattle.vlt_meaning_laws.specs.Machine.Got.{Got, got, stopped, then_step, ope
 use Rattle.vlt_meaning_laws.specs.Machine.Machine.{Task, list, closing, turn, unfocus, back, Conf, at, when_found, when_got, when_so, spending, enter_block, enter_arm, enter_body, enter_by, enter, turn_on, act, list_moves, turn_moves, moved_in, after_move, moves}
 use Rattle.vlt_meaning_laws.proofs.OfMachine.Gots.{operands_step, opened_step, filled_step}
 
--- where a run comes to that has these tasks left behind a step of the function
+-- where a run comes to that has these tasks left after a step of the function
 abbrev pub finishes : Setup → Func → List Task → Step → Step
 finishes r f [] a = a
 finishes r f (list ss ∷ ts) a = finishes r f ts (then_do a (does r f ss))

@@ -203,21 +203,21 @@ module _ (r : Setup) where
 
   -- ---- moves
 
-  -- what is left behind a task
-  behind_list : (ss : Stmts) (ts : List Task) → Stands (list ss ∷ ts) → Stands ts
-  behind_list ss ts s = let h = s.reach in record { reach = omega (arith, h); within = s.within; callers = s.callers }
+  -- what is left after a task
+  after_list : (ss : Stmts) (ts : List Task) → Stands (list ss ∷ ts) → Stands ts
+  after_list ss ts s = let h = s.reach in record { reach = omega (arith, h); within = s.within; callers = s.callers }
 
   list_fits : (f : Func) (ss : Stmts) (ts : List Task) (a : Step) → Stands (list ss ∷ ts) → IsAt (frames ts) a → Fits r (list_moves r f ss ts a)
-  list_fits f done ts (goes frame w) s e = fits f ts (goes frame w) (behind_list done ts s) e
+  list_fits f done ts (goes frame w) s e = fits f ts (goes frame w) (after_list done ts s) e
   list_fits f (next place form rest) ts (goes frame w) s e =
       let h = s.reach in
       act_fits f form (list rest ∷ ts) frame w (record { reach = omega (arith, h); within = s.within; callers = s.callers }) (omega (arith, h)) (omega arith) (let k = some_need rest in omega (arith, k)) e
-  list_fits f done ts (jumps c frame w) s e = fits f ts (jumps c frame w) (behind_list done ts s) e
-  list_fits f (next place form rest) ts (jumps c frame w) s e = fits f ts (jumps c frame w) (behind_list (next place form rest) ts s) e
-  list_fits f done ts (leaves a kept w) s e = fits f ts (leaves a kept w) (behind_list done ts s) e
-  list_fits f (next place form rest) ts (leaves a kept w) s e = fits f ts (leaves a kept w) (behind_list (next place form rest) ts s) e
-  list_fits f done ts (ends o w) s e = fits f ts (ends o w) (behind_list done ts s) e
-  list_fits f (next place form rest) ts (ends o w) s e = fits f ts (ends o w) (behind_list (next place form rest) ts s) e
+  list_fits f done ts (jumps c frame w) s e = fits f ts (jumps c frame w) (after_list done ts s) e
+  list_fits f (next place form rest) ts (jumps c frame w) s e = fits f ts (jumps c frame w) (after_list (next place form rest) ts s) e
+  list_fits f done ts (leaves a kept w) s e = fits f ts (leaves a kept w) (after_list done ts s) e
+  list_fits f (next place form rest) ts (leaves a kept w) s e = fits f ts (leaves a kept w) (after_list (next place form rest) ts s) e
+  list_fits f done ts (ends o w) s e = fits f ts (ends o w) (after_list done ts s) e
+  list_fits f (next place form rest) ts (ends o w) s e = fits f ts (ends o w) (after_list (next place form rest) ts s) e
 
   again_fits : (f : Func) (x : Expr) (b : Block) (ts : List Task) (a : Step) → Stands (turn x b ∷ ts) → Stands ts → IsAt (frames ts) a → Fits r (turn_moves r f x b ts a)
   again_fits f x b ts (goes frame w) s t e = let h = s.reach in turn_fits f x b ts frame w t (omega (arith, h)) e

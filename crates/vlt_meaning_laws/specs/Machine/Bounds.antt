@@ -5,7 +5,7 @@ use Rattle.vlt_meaning.specs.Step.{Step, goes, jumps, leaves, ends}
 use Rattle.vlt_meaning.specs.Run.{Setup}
 use Rattle.vlt_meaning_laws.specs.Machine.Machine.{Task, list, turn, back, Conf, after_move}
 
--- ---- the tasks that statements need, those that are left behind them included
+-- ---- the tasks that statements need, those that are left after them included
 
 abbrev mutual
   pub need : Stmts → ℕ

@@ -1,4 +1,4 @@
--- What a part of a step gives, with the frame and the world behind it, or how the run ends there: what the definition of
+-- What a part of a step gives, with the frame and the world after it, or how the run ends there: what the definition of
 -- runs hands on from step to step, as data.
 use Rattle.std.specs.Prelude.{ℕ, List, [], ◌∷◌, Bool, true, false, Some, None, Ok, Err}
 use Rattle.vlt_core.specs.Core.{Operand, pure, move, pack, Func, Program}

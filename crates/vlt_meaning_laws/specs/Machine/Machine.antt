@@ -94,14 +94,14 @@ enter r f target keys g args ts frame w =
 
 -- ---- statements
 
--- the next turn of a loop, or what is behind it
+-- the next turn of a loop, or what is after it
 unfoldable pub turn_on : Setup → Func → Expr → Block → List Task → Frame → World → Conf
 turn_on r f e b ts frame w =
     spending f ts w (λ w.
     when_found (number_of r.program f e frame w.objects) f ts w (λ z.
     if is_true z then enter_block f b (turn e b ∷ ts) frame w else at f ts (goes frame w)))
 
--- a statement, with what is left to do behind it
+-- a statement, with what is left to do after it
 abbrev pub act : Setup → Func → Form → List Task → Frame → World → Conf
 act r f (simple s) ts frame w = at f ts (does_simple r f s frame w)
 act r f (call g target keys args) ts frame w =

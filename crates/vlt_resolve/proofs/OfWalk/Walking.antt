@@ -6,19 +6,19 @@ use Rattle.vlt_resolve_exprs.specs.Scopes.{Scope}
 use Rattle.vlt_resolve.specs.Walk.Walk.{Walked, then_do}
 
 -- what was made before, and then these
-abbrev pub behind : List (ℕ × Form) → Walked → Walked
-behind made x = then_do x (λ z. Ok (made ++ z.0, z.1))
+abbrev pub following : List (ℕ × Form) → Walked → Walked
+following made x = then_do x (λ z. Ok (made ++ z.0, z.1))
 
-pub behind_more : (x : Walked) (made more : List (ℕ × Form)) → behind made (then_do x (λ z. Ok (more ++ z.0, z.1))) ≡ behind (made ++ more) x
-behind_more (Ok z) made more = rw append_assoc refl
-behind_more (Err r) made more = refl
+pub following_more : (x : Walked) (made more : List (ℕ × Form)) → following made (then_do x (λ z. Ok (more ++ z.0, z.1))) ≡ following (made ++ more) x
+following_more (Ok z) made more = rw append_assoc refl
+following_more (Err r) made more = refl
 
 abbrev pub Arms : Type 0
 Arms = List (ℕ × List ℕ × Block)
 
-abbrev pub behind_arms : Arms → Result (Arms × Scope) Refusal → Result (Arms × Scope) Refusal
-behind_arms made x = then_do x (λ z. Ok (made ++ z.0, z.1))
+abbrev pub after_arms : Arms → Result (Arms × Scope) Refusal → Result (Arms × Scope) Refusal
+after_arms made x = then_do x (λ z. Ok (made ++ z.0, z.1))
 
-pub behind_more_arms : (x : Result (Arms × Scope) Refusal) (made : Arms) (p : ℕ × List ℕ × Block) → behind_arms made (then_do x (λ z. Ok (p ∷ z.0, z.1))) ≡ behind_arms (made ++ p ∷ []) x
-behind_more_arms (Ok z) made p = rw append_assoc refl
-behind_more_arms (Err r) made p = refl
+pub after_more_arms : (x : Result (Arms × Scope) Refusal) (made : Arms) (p : ℕ × List ℕ × Block) → after_arms made (then_do x (λ z. Ok (p ∷ z.0, z.1))) ≡ after_arms (made ++ p ∷ []) x
+after_more_arms (Ok z) made p = rw append_assoc refl
+after_more_arms (Err r) made p = refl

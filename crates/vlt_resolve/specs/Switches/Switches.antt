@@ -16,7 +16,7 @@ use Rattle.vlt_resolve_calls.specs.Builds.{Case, cases_of, case_of_tick}
 
 -- ---- the cases of a switch
 
--- the names behind the `'` of each arm's tick
+-- the names after the `'` of each arm's tick
 abbrev pub arm_names : Arms → List (List ℕ)
 arm_names s.no_arms = []
 arm_names (s.arm tick vs b at rest) = drop 1 tick.text ∷ arm_names rest

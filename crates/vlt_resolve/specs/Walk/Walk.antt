@@ -1,4 +1,4 @@
--- Statements in the order of the text: the first refusal, or what they become and the scope behind them.
+-- Statements in the order of the text: the first refusal, or what they become and the scope after them.
 use Rattle.std.specs.Prelude.{ℕ, ◌-◌, Bool, false, List, [], ◌∷◌, ◌++◌, length, map, Option, Some, None, Result, Ok, Err}
 use Rattle.vlt_syntax.specs.Tree as s
 use Rattle.vlt_syntax.specs.Tree.{Name, Stmt, Block, If, Else, Stmts, Arms}
@@ -10,7 +10,7 @@ use Rattle.vlt_core.specs.declared.rules.TheConstants as rule
 use Rattle.vlt_kinds_types.specs.declared.names.found.Refusal.{Refusal}
 use Rattle.vlt_kinds_types.specs.Names.Refusals.{refuse_if, least_from}
 use Rattle.vlt_kinds.specs.Kinds.{Kinds}
-use Rattle.vlt_resolve_exprs.specs.Scopes.{Scope, var_ty, scope_inside, scope_behind, bound_in}
+use Rattle.vlt_resolve_exprs.specs.Scopes.{Scope, var_ty, scope_inside, scope_after, bound_in}
 use Rattle.vlt_resolve_exprs.specs.Exprs.{wanted_refused, core_expr, var_number}
 use Rattle.vlt_resolve_calls.specs.Builds.{Case}
 use Rattle.vlt_resolve_stmts.specs.Around.{Around, inside_loop, inside_focus}
@@ -27,9 +27,9 @@ abbrev pub unless_refused : {B : Type 0} → Option Refusal → Result B Refusal
 unless_refused None go = go
 unless_refused (Some r) go = Err r
 
--- a statement behind one that ends
+-- a statement after one that ends
 unfoldable pub late : Bool → Stmt → Option Refusal
-late ended x = least_from None (refuse_if ended rule.BEHIND_END (stmt_place x))
+late ended x = least_from None (refuse_if ended rule.AFTER_END (stmt_place x))
 
 -- the forms that a statement becomes, each at its place
 abbrev pub placed_at : ℕ → List Form → List (ℕ × Form)
@@ -45,7 +45,7 @@ block_made y end = core.block (stmts_made y.0) (bound_in y.1) end
 abbrev pub one : Form → Scope → Result Became Refusal
 one form scope = Ok (form ∷ [], scope)
 
--- a statement without blocks, behind what was found before
+-- a statement without blocks, after what was found before
 abbrev pub walk_simple : Kinds → Around → Scope → Option Refusal → Stmt → Result Became Refusal
 walk_simple kinds around scope found x =
     unless_refused (least_from found (simple_refused kinds around scope x)) (Ok (simple_became kinds around scope x))
@@ -58,7 +58,7 @@ abbrev mutual
       then_do (walk_stmts kinds around y.1 (ends x) xs) (λ z.
       Ok (placed_at (stmt_place x) y.0 ++ z.0, z.1)))
 
-  -- behind what was found before
+  -- after what was found before
   pub walk_stmt : Kinds → Around → Scope → Option Refusal → Stmt → Result Became Refusal
   walk_stmt kinds around scope found (s.block b) =
       unless_refused found
@@ -78,12 +78,12 @@ abbrev mutual
   walk_focus kinds around scope found y k z (s.braced ss close) =
       unless_refused (least_from found (focus_refused kinds (scope_inside scope) (var_ty scope y.text) y k z))
       (then_do (walk_stmts kinds (inside_focus around) (bound_scope (scope_inside scope) (var_ty scope y.text) k z) false ss) (λ w.
-      one (core.focus (var_number scope y) (length scope.vars) (block_made w (close.to - 1))) (scope_behind scope w.1)))
+      one (core.focus (var_number scope y) (length scope.vars) (block_made w (close.to - 1))) (scope_after scope w.1)))
 
   pub walk_block : Kinds → Around → Scope → Block → Result (core.Block × Scope) Refusal
   walk_block kinds around scope (s.braced ss at) =
       then_do (walk_stmts kinds around (scope_inside scope) false ss) (λ y.
-      Ok (block_made y (at.to - 1), scope_behind scope y.1))
+      Ok (block_made y (at.to - 1), scope_after scope y.1))
 
   pub walk_if : Kinds → Around → Scope → Option Refusal → If → Result Became Refusal
   walk_if kinds around scope found (s.choice e b other at) =
@@ -97,7 +97,7 @@ abbrev mutual
   walk_else kinds around scope end (s.last b) = walk_block kinds around scope b
   walk_else kinds around scope end (s.chained i) = walk_chained kinds around scope end i
 
-  -- an `if` behind an `else`, in a block of its own that binds nothing
+  -- an `if` after an `else`, in a block of its own that binds nothing
   pub walk_chained : Kinds → Around → Scope → ℕ → If → Result (core.Block × Scope) Refusal
   walk_chained kinds around scope end (s.choice e b other at) =
       unless_refused (least_from None (wanted_refused kinds scope (Some bool) e))
@@ -117,7 +117,7 @@ abbrev mutual
   walk_arm kinds around scope case tick vs (s.braced ss at) =
       unless_refused (least_from None (arm_refused kinds (scope_inside scope) case tick vs))
       (then_do (walk_stmts kinds around (arm_scope (scope_inside scope) case vs) false ss) (λ y.
-      Ok ((case_number case, arm_numbers (scope_inside scope) case vs, block_made y (at.to - 1)), scope_behind scope y.1)))
+      Ok ((case_number case, arm_numbers (scope_inside scope) case vs, block_made y (at.to - 1)), scope_after scope y.1)))
 
 abbrev pub walk_one_arm : Kinds → Around → Scope → Option Ty → ArmView → Result ((ℕ × List ℕ × core.Block) × Scope) Refusal
 walk_one_arm kinds around scope ty a = walk_arm kinds around scope (arm_case kinds ty a.0) a.0 a.1 a.2

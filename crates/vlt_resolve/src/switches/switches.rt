@@ -1,7 +1,6 @@
 //! What is refused at a switch, at its arms, and at a focus, and the scopes in their blocks.
 
-ghost use Rattle.std.specs.Prelude.{◌≡◌, map, option_map, length, drop, IfOk, OnOk};
-ghost use Rattle.std.specs.List.{list_any, list_all};
+ghost use Rattle.std.specs.Prelude.{◌≡◌, map, option_map, IfOk, OnOk};
 ghost use Rattle.vlt_syntax.specs.View as tree;
 ghost use Rattle.vlt_core.specs.View.{ty_of, case_of, vars_of};
 ghost use Rattle.vlt_core.specs.Lookups.{variant_in};
@@ -24,7 +23,7 @@ use vlt_syntax::{Arm, Name};
 
 // ---- the cases of a switch
 
-/// The names behind the `'` of each arm's tick.
+/// The names after the `'` of each arm's tick.
 pub fn arm_names<'a>(alloc: Global, arms: &'a [Arm]) -> Result<Items<&'a [u8]>, AllocError>
     ensures { IfOk result (λ ns. texts_seen ns ≡ s.arm_names (tree.arms_of arms.now)) }
 {

@@ -22,7 +22,7 @@ use crate::walk::blocks::{closing, else_closing, ends, stmt_place};
 use crate::walk::stop::Stop;
 use std::alloc::{AllocError, Global};
 use vlt_base::{Boxed, Items, VarId};
-use vlt_core::rules::BEHIND_END;
+use vlt_core::rules::AFTER_END;
 use vlt_core::{Form, Ty};
 use vlt_kinds::Kinds;
 use vlt_kinds_types::LeastRefusal;
@@ -38,7 +38,7 @@ fn late(ended: bool, stmt: &Stmt) -> LeastRefusal
     ensures { result.least ≡ w.late ended (tree.stmt_of stmt.now) }
 {
     let mut found = LeastRefusal { least: None };
-    found.add_if(ended, BEHIND_END, stmt_place(stmt));
+    found.add_if(ended, AFTER_END, stmt_place(stmt));
     found
 }
 
@@ -495,7 +495,7 @@ fn walk_else<'a>(
     }
 }
 
-/// An `if` behind an `else`, in a block of its own that binds nothing.
+/// An `if` after an `else`, in a block of its own that binds nothing.
 #[cycle(walk)]
 fn walk_chained<'a>(
     alloc: Global,

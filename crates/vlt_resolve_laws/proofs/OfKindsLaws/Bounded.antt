@@ -9,7 +9,7 @@ use Rattle.vlt_kinds_types.specs.Names.Globals.{Globals}
 use Rattle.vlt_kinds_types.specs.Names.Along.{along}
 use Rattle.vlt_kinds_types.specs.Files.{File}
 use Rattle.vlt_kinds_heads.specs.Keys.{Keys}
-use Rattle.vlt_kinds_heads.specs.Bounds.{is_bound, variable_refused, behind_bound, variables_refused}
+use Rattle.vlt_kinds_heads.specs.Bounds.{is_bound, variable_refused, after_bound, variables_refused}
 use Rattle.vlt_kinds_heads.specs.Phase.{core_entry}
 use Rattle.vlt_resolve_laws.proofs.OfKindsLaws.Empty.{no_left, no_right, not_broken}
 
@@ -36,7 +36,7 @@ module _ (file : File) (keys : Keys) where
     never_again (s.given k at) none = refl
     never_again (s.fresh k at) none = refl
 
-    none_more : (es : List Entry) → along behind_bound (variable_refused known all ps) true es ≡ [] → bounded es ≡ []
+    none_more : (es : List Entry) → along after_bound (variable_refused known all ps) true es ≡ [] → bounded es ≡ []
     none_more [] none = refl
     none_more (e ∷ es) none =
         ap (λ b. if b then core_entry file keys e ∷ bounded es else bounded es) (same_bound e ∙ never_again e (no_left (variable_refused known all ps true e) _ none))
@@ -52,7 +52,7 @@ module _ (file : File) (keys : Keys) where
         at_most is = ap (λ b. nat_le (length (if b then core_entry file keys e ∷ bounded es else bounded es)) 1) (same_bound e ∙ is)
 
         by : (b : Bool) → is_bound e ≡ b → (variables_refused known all ps es ≡ [] → nat_le (length (bounded es)) 1 ≡ true)
-            → along behind_bound (variable_refused known all ps) b es ≡ []
+            → along after_bound (variable_refused known all ps) b es ≡ []
             → nat_le (length (if is_bound_entry (core_entry file keys e) then core_entry file keys e ∷ bounded es else bounded es)) 1 ≡ true
         by true is more none = at_most is ∙ ap (λ l. nat_le (length (core_entry file keys e ∷ l)) 1) (none_more es none)
         by false is more none = at_most is ∙ more none

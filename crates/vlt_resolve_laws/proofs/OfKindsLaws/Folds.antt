@@ -6,7 +6,7 @@ use Rattle.vlt_syntax.specs.Lists.{Each}
 use Rattle.vlt_kinds_types.specs.declared.shapes.Wanted.{Wanted}
 use Rattle.vlt_kinds_types.specs.declared.shapes.Wanted.TheVariants as wanted
 use Rattle.vlt_kinds_types.specs.Types.{KeyUse}
-use Rattle.vlt_kinds_heads.specs.Keys.{Keys, facts_of, note, typed_first, with_typing, behind_typing, behind_use, gives_type, behind_fresh, fresh_typed, parameters_typed}
+use Rattle.vlt_kinds_heads.specs.Keys.{Keys, facts_of, note, typed_first, with_typing, after_typing, after_use, gives_type, after_fresh, fresh_typed, parameters_typed}
 use Rattle.vlt_kinds_heads.specs.Heads.{type_rule, clash_with, clash, clashes}
 use Rattle.vlt_kinds_heads.specs.declared.facts.Facts.{Facts}
 use Rattle.vlt_kinds_heads.specs.declared.facts.Typing.{Typing}
@@ -96,7 +96,7 @@ module _ (keys : Keys) (k : List ℕ) (t at : ℕ) where
   typing_other j apart = field_stays (λ f. f.typing) (λ m n. refl) keys j k (with_typing t at) apart
 
 -- a type that is given stays
-use_keeps : (keys : Keys) (w : Wanted) (k : List ℕ) (at : ℕ) (j : List ℕ) (had : Typing) → typing_at keys j ≡ Some had → typing_at (behind_typing keys w k at) j ≡ Some had
+use_keeps : (keys : Keys) (w : Wanted) (k : List ℕ) (at : ℕ) (j : List ℕ) (had : Typing) → typing_at keys j ≡ Some had → typing_at (after_typing keys w k at) j ≡ Some had
 use_keeps keys wanted.Any k at j had is = is
 use_keeps keys wanted.Unknown k at j had is = is
 use_keeps keys (wanted.OfType t) k at j had is = by (bytes_eq j k) refl
@@ -108,7 +108,7 @@ use_keeps keys (wanted.OfType t) k at j had is = by (bytes_eq j k) refl
 
 pub parameters_keep : (keys : Keys) (us : List KeyUse) (j : List ℕ) (had : Typing) → typing_at keys j ≡ Some had → typing_at (parameters_typed keys us) j ≡ Some had
 parameters_keep keys [] j had is = is
-parameters_keep keys (u ∷ us) j had is = parameters_keep (behind_use keys u) us j had (use_keeps keys u.wanted u.key u.at j had is)
+parameters_keep keys (u ∷ us) j had is = parameters_keep (after_use keys u) us j had (use_keeps keys u.wanted u.key u.at j had is)
 
 -- the key's object is of this type
 abbrev pub IsOfType : Keys → List ℕ → (type : ℕ) → Type 0
@@ -123,18 +123,18 @@ pub unclashed : (keys : Keys) (us : List KeyUse) → clashes keys us ≡ [] → 
 unfolding clash
 unclashed keys [] none = tt
 unclashed keys (u ∷ us) none =
-    (by u.wanted refl (no_left (clash keys u) _ none), unclashed (behind_use keys u) us (no_right (clash keys u) _ none))
+    (by u.wanted refl (no_left (clash keys u) _ none), unclashed (after_use keys u) us (no_right (clash keys u) _ none))
   where
-    kept : (t : ℕ) → IsOfType (behind_use keys u) u.key t → IsOfType (parameters_typed (behind_use keys u) us) u.key t
-    kept t x = (x.0, parameters_keep (behind_use keys u) us u.key x.0 x.1, x.2)
+    kept : (t : ℕ) → IsOfType (after_use keys u) u.key t → IsOfType (parameters_typed (after_use keys u) us) u.key t
+    kept t x = (x.0, parameters_keep (after_use keys u) us u.key x.0 x.1, x.2)
 
-    typed : (t : ℕ) → u.wanted ≡ wanted.OfType t → (o : Option Typing) → typing_at keys u.key ≡ o → clash_with o (wanted.OfType t) u.tracked u.at ≡ [] → IsOfType (behind_use keys u) u.key t
+    typed : (t : ℕ) → u.wanted ≡ wanted.OfType t → (o : Option Typing) → typing_at keys u.key ≡ o → clash_with o (wanted.OfType t) u.tracked u.at ≡ [] → IsOfType (after_use keys u) u.key t
     typed t is None had none =
-        (record { type_id = t; at = u.at }, ap (λ w. typing_at (behind_typing keys w u.key u.at) u.key) is ∙ (typing_noted keys u.key t u.at ∙ ap (λ o. typed_first o t u.at) had), refl)
+        (record { type_id = t; at = u.at }, ap (λ w. typing_at (after_typing keys w u.key u.at) u.key) is ∙ (typing_noted keys u.key t u.at ∙ ap (λ o. typed_first o t u.at) had), refl)
     typed t is (Some x) had none =
         (x, use_keeps keys u.wanted u.key u.at u.key x had, eqb-true x.type_id t (not-false (x.type_id == t) (not_broken _ (type_rule u.tracked) u.at none)))
 
-    by : (w : Wanted) → u.wanted ≡ w → clash keys u ≡ [] → IsAsWanted (parameters_typed (behind_use keys u) us) u.key w
+    by : (w : Wanted) → u.wanted ≡ w → clash keys u ≡ [] → IsAsWanted (parameters_typed (after_use keys u) us) u.key w
     by wanted.Any is none = tt
     by wanted.Unknown is none = tt
     by (wanted.OfType t) is none = kept t (typed t is (typing_at keys u.key) refl (clear t is none))
@@ -147,7 +147,7 @@ abbrev pub SaysType : Wanted → Type 0
 SaysType (wanted.OfType t) = Unit {0}
 SaysType _ = ⊥
 
-use_from : (keys : Keys) (w : Wanted) (k : List ℕ) (at : ℕ) (j : List ℕ) (had : Typing) → typing_at (behind_typing keys w k at) j ≡ Some had
+use_from : (keys : Keys) (w : Wanted) (k : List ℕ) (at : ℕ) (j : List ℕ) (had : Typing) → typing_at (after_typing keys w k at) j ≡ Some had
     → (typing_at keys j ≡ Some had) ⊎ ((j ≡ k) × SaysType w)
 use_from keys wanted.Any k at j had is = inl is
 use_from keys wanted.Unknown k at j had is = inl is
@@ -162,12 +162,12 @@ pub parameters_from : (keys : Keys) (us : List KeyUse) (j : List ℕ) (had : Typ
 parameters_from keys [] j had is = inl is
 parameters_from keys (u ∷ us) j had is =
     ⊎_elim (λ here. ⊎_elim (λ old. inl old) (λ new. inr (inl new)) (use_from keys u.wanted u.key u.at j had here)) (λ more. inr (inr more))
-    (parameters_from (behind_use keys u) us j had is)
+    (parameters_from (after_use keys u) us j had is)
 
 -- ---- what typing leaves as it is
 
 module _ {B : Type 0} (field : Facts → B) (constant : IsField B field) (blind : (t at : ℕ) (f : Facts) → field (with_typing t at f) ≡ field f) where
-  pub use_blind : (keys : Keys) (w : Wanted) (k : List ℕ) (at : ℕ) (j : List ℕ) → field (facts_of (behind_typing keys w k at) j) ≡ field (facts_of keys j)
+  pub use_blind : (keys : Keys) (w : Wanted) (k : List ℕ) (at : ℕ) (j : List ℕ) → field (facts_of (after_typing keys w k at) j) ≡ field (facts_of keys j)
   use_blind keys wanted.Any k at j = refl
   use_blind keys wanted.Unknown k at j = refl
   use_blind keys (wanted.OfType t) k at j = by (bytes_eq j k) refl
@@ -179,13 +179,13 @@ module _ {B : Type 0} (field : Facts → B) (constant : IsField B field) (blind 
 
   pub parameters_blind : (keys : Keys) (us : List KeyUse) (j : List ℕ) → field (facts_of (parameters_typed keys us) j) ≡ field (facts_of keys j)
   parameters_blind keys [] j = refl
-  parameters_blind keys (u ∷ us) j = parameters_blind (behind_use keys u) us j ∙ use_blind keys u.wanted u.key u.at j
+  parameters_blind keys (u ∷ us) j = parameters_blind (after_use keys u) us j ∙ use_blind keys u.wanted u.key u.at j
 
   pub fresh_blind : (keys : Keys) (us : List KeyUse) (j : List ℕ) → field (facts_of (fresh_typed keys us) j) ≡ field (facts_of keys j)
   fresh_blind keys [] j = refl
-  fresh_blind keys (u ∷ us) j = fresh_blind (behind_fresh keys u) us j ∙ by (gives_type keys u)
+  fresh_blind keys (u ∷ us) j = fresh_blind (after_fresh keys u) us j ∙ by (gives_type keys u)
     where
-      by : (b : Bool) → field (facts_of (if b then behind_use keys u else keys) j) ≡ field (facts_of keys j)
+      by : (b : Bool) → field (facts_of (if b then after_use keys u else keys) j) ≡ field (facts_of keys j)
       by true = use_blind keys u.wanted u.key u.at j
       by false = refl
 
@@ -194,9 +194,9 @@ pub fresh_from : (keys : Keys) (us : List KeyUse) (j : List ℕ) (had : Typing) 
     → (typing_at keys j ≡ Some had) ⊎ ((facts_of keys j).is_fresh ≡ true)
 fresh_from keys [] j had is = inl is
 fresh_from keys (u ∷ us) j had is =
-    ⊎_elim (λ here. by (gives_type keys u) refl here) (λ new. inr (sym (still (gives_type keys u)) ∙ new)) (fresh_from (behind_fresh keys u) us j had is)
+    ⊎_elim (λ here. by (gives_type keys u) refl here) (λ new. inr (sym (still (gives_type keys u)) ∙ new)) (fresh_from (after_fresh keys u) us j had is)
   where
-    still : (b : Bool) → (facts_of (if b then behind_use keys u else keys) j).is_fresh ≡ (facts_of keys j).is_fresh
+    still : (b : Bool) → (facts_of (if b then after_use keys u else keys) j).is_fresh ≡ (facts_of keys j).is_fresh
     still true = use_blind (λ f. f.is_fresh) (λ m n. refl) (λ t at f. refl) keys u.wanted u.key u.at j
     still false = refl
 
@@ -204,67 +204,67 @@ fresh_from keys (u ∷ us) j had is =
     gives true e = e
     gives false e = absurd (true≢false (sym e))
 
-    by : (b : Bool) → gives_type keys u ≡ b → typing_at (if b then behind_use keys u else keys) j ≡ Some had → (typing_at keys j ≡ Some had) ⊎ ((facts_of keys j).is_fresh ≡ true)
+    by : (b : Bool) → gives_type keys u ≡ b → typing_at (if b then after_use keys u else keys) j ≡ Some had → (typing_at keys j ≡ Some had) ⊎ ((facts_of keys j).is_fresh ≡ true)
     by true fresh is = ⊎_elim (λ old. inl old) (λ new. inr (subst (λ k. (facts_of keys k).is_fresh ≡ true) (sym new.0) (gives u.tracked fresh))) (use_from keys u.wanted u.key u.at j had is)
     by false fresh is = inl is
 
 -- ---- tables that are typed
 
-use_table : (keys : Keys) (w : Wanted) (k : List ℕ) (at : ℕ) → IsTable 0 keys → IsTable 0 (behind_typing keys w k at)
+use_table : (keys : Keys) (w : Wanted) (k : List ℕ) (at : ℕ) → IsTable 0 keys → IsTable 0 (after_typing keys w k at)
 use_table keys wanted.Any k at table = table
 use_table keys wanted.Unknown k at table = table
 use_table keys (wanted.OfType t) k at table = table_noted keys k (with_typing t at) (λ f. refl) table
 
 pub parameters_table : (keys : Keys) (us : List KeyUse) → IsTable 0 keys → IsTable 0 (parameters_typed keys us)
 parameters_table keys [] table = table
-parameters_table keys (u ∷ us) table = parameters_table (behind_use keys u) us (use_table keys u.wanted u.key u.at table)
+parameters_table keys (u ∷ us) table = parameters_table (after_use keys u) us (use_table keys u.wanted u.key u.at table)
 
 pub fresh_table : (keys : Keys) (us : List KeyUse) → IsTable 0 keys → IsTable 0 (fresh_typed keys us)
 fresh_table keys [] table = table
-fresh_table keys (u ∷ us) table = fresh_table (behind_fresh keys u) us (by (gives_type keys u))
+fresh_table keys (u ∷ us) table = fresh_table (after_fresh keys u) us (by (gives_type keys u))
   where
-    by : (b : Bool) → IsTable 0 (if b then behind_use keys u else keys)
+    by : (b : Bool) → IsTable 0 (if b then after_use keys u else keys)
     by true = use_table keys u.wanted u.key u.at table
     by false = table
 
-use_in : (keys : Keys) (w : Wanted) (k : List ℕ) (at : ℕ) (j : List ℕ) → IsIn keys j → IsIn (behind_typing keys w k at) j
+use_in : (keys : Keys) (w : Wanted) (k : List ℕ) (at : ℕ) (j : List ℕ) → IsIn keys j → IsIn (after_typing keys w k at) j
 use_in keys wanted.Any k at j x = x
 use_in keys wanted.Unknown k at j x = x
 use_in keys (wanted.OfType t) k at j x = stays_in keys j k (with_typing t at) x
 
 pub parameters_in : (keys : Keys) (us : List KeyUse) (j : List ℕ) → IsIn keys j → IsIn (parameters_typed keys us) j
 parameters_in keys [] j x = x
-parameters_in keys (u ∷ us) j x = parameters_in (behind_use keys u) us j (use_in keys u.wanted u.key u.at j x)
+parameters_in keys (u ∷ us) j x = parameters_in (after_use keys u) us j (use_in keys u.wanted u.key u.at j x)
 
 pub fresh_in : (keys : Keys) (us : List KeyUse) (j : List ℕ) → IsIn keys j → IsIn (fresh_typed keys us) j
 fresh_in keys [] j x = x
-fresh_in keys (u ∷ us) j x = fresh_in (behind_fresh keys u) us j (by (gives_type keys u))
+fresh_in keys (u ∷ us) j x = fresh_in (after_fresh keys u) us j (by (gives_type keys u))
   where
-    by : (b : Bool) → IsIn (if b then behind_use keys u else keys) j
+    by : (b : Bool) → IsIn (if b then after_use keys u else keys) j
     by true = use_in keys u.wanted u.key u.at j x
     by false = x
 
 -- a key that is typed comes from before, or from a place
 pub parameters_in_from : (keys : Keys) (us : List KeyUse) (j : List ℕ) → IsIn (parameters_typed keys us) j → (IsIn keys j) ⊎ SomeOf (λ u. j ≡ u.key) us
 parameters_in_from keys [] j x = inl x
-parameters_in_from keys (u ∷ us) j x = ⊎_elim (λ here. by u.wanted here) (λ more. inr (inr more)) (parameters_in_from (behind_use keys u) us j x)
+parameters_in_from keys (u ∷ us) j x = ⊎_elim (λ here. by u.wanted here) (λ more. inr (inr more)) (parameters_in_from (after_use keys u) us j x)
   where
     at : (t : ℕ) (b : Bool) → bytes_eq j u.key ≡ b → IsIn (note keys u.key (with_typing t u.at)) j → (IsIn keys j) ⊎ SomeOf (λ u. j ≡ u.key) (u ∷ us)
     at t true same x = inr (inl (same_name j u.key same))
     at t false same x = inl (in_or_noted keys j u.key (with_typing t u.at) x same)
 
-    by : (w : Wanted) → IsIn (behind_typing keys w u.key u.at) j → (IsIn keys j) ⊎ SomeOf (λ u. j ≡ u.key) (u ∷ us)
+    by : (w : Wanted) → IsIn (after_typing keys w u.key u.at) j → (IsIn keys j) ⊎ SomeOf (λ u. j ≡ u.key) (u ∷ us)
     by wanted.Any x = inl x
     by wanted.Unknown x = inl x
     by (wanted.OfType t) x = at t (bytes_eq j u.key) refl x
 
 pub fresh_in_from : (keys : Keys) (us : List KeyUse) (j : List ℕ) → IsIn (fresh_typed keys us) j → (IsIn keys j) ⊎ SomeOf (λ u. j ≡ u.key) us
 fresh_in_from keys [] j x = inl x
-fresh_in_from keys (u ∷ us) j x = ⊎_elim (λ here. by (gives_type keys u) here) (λ more. inr (inr more)) (fresh_in_from (behind_fresh keys u) us j x)
+fresh_in_from keys (u ∷ us) j x = ⊎_elim (λ here. by (gives_type keys u) here) (λ more. inr (inr more)) (fresh_in_from (after_fresh keys u) us j x)
   where
     one : (IsIn keys j) ⊎ SomeOf (λ u. j ≡ u.key) (u ∷ []) → (IsIn keys j) ⊎ SomeOf (λ u. j ≡ u.key) (u ∷ us)
     one x = ⊎_elim (λ a. inl a) (λ b. inr (⊎_elim (λ c. inl c) (λ d. absurd d) b)) x
 
-    by : (b : Bool) → IsIn (if b then behind_use keys u else keys) j → (IsIn keys j) ⊎ SomeOf (λ u. j ≡ u.key) (u ∷ us)
+    by : (b : Bool) → IsIn (if b then after_use keys u else keys) j → (IsIn keys j) ⊎ SomeOf (λ u. j ≡ u.key) (u ∷ us)
     by true x = one (parameters_in_from keys (u ∷ []) j x)
     by false x = inl x

@@ -9,7 +9,7 @@ use Rattle.vlt_syntax.specs.Tree.{Name, Decl}
 use Rattle.vlt_kinds_types.specs.declared.names.globals.Entity.{Entity}
 use Rattle.vlt_kinds_types.specs.declared.names.globals.Entity.TheVariants.{ASet, AType, AFunction}
 use Rattle.vlt_kinds_types.specs.Names.Refusals.{refuse, of_each}
-use Rattle.vlt_kinds_types.specs.Names.Globals.{Globals, global_in, is_global, decl_name, Counts, global_of, counts_after, with_declared, globals_behind, declared_again, no_counts, globals_of}
+use Rattle.vlt_kinds_types.specs.Names.Globals.{Globals, global_in, is_global, decl_name, Counts, global_of, counts_after, with_declared, globals_after, declared_again, no_counts, globals_of}
 use Rattle.vlt_kinds_types.specs.Names.Names.{names_again}
 use Rattle.vlt_kinds_types.specs.Files.{as_set, set_in, sets_in}
 use Rattle.vlt_core.specs.declared.rules.TheConstants as rule
@@ -57,7 +57,7 @@ stays_more known c d n g e = by (is_global known (decl_name d).text)
     by true = e
     by false = stays_found (bytes_eq n) known (decl_name d).text (global_of c d) g e
 
-stays : (known : Globals) (c : Counts) (ds : List Decl) (n : List ℕ) (g : Entity) → global_in known n ≡ Some g → global_in (globals_behind known c ds) n ≡ Some g
+stays : (known : Globals) (c : Counts) (ds : List Decl) (n : List ℕ) (g : Entity) → global_in known n ≡ Some g → global_in (globals_after known c ds) n ≡ Some g
 stays known c [] n g e = e
 stays known c (d ∷ ds) n g e = stays (with_declared known c d) (counts_after c d) ds n g (stays_more known c d n g e)
 
@@ -66,7 +66,7 @@ abbrev pub AreNamed : Globals → Counts → List Decl → Type 0
 AreNamed all c [] = Unit {0}
 AreNamed all c (d ∷ ds) = (global_in all (decl_name d).text ≡ Some (global_of c d)) × AreNamed all (counts_after c d) ds
 
-are_named : (known : Globals) (c : Counts) (ds : List Decl) → declared_again known c ds ≡ [] → AreNamed (globals_behind known c ds) c ds
+are_named : (known : Globals) (c : Counts) (ds : List Decl) → declared_again known c ds ≡ [] → AreNamed (globals_after known c ds) c ds
 are_named known c [] none = tt
 are_named known c (d ∷ ds) none =
     let new = unknown (is_global known (decl_name d).text) none in
@@ -120,10 +120,10 @@ sets_more known c d has n i = by (is_global known (decl_name d).text)
     by true e = omega (arith, has n i e, counted_sets c d)
     by false e = ⊎_elim (λ old. omega (arith, has n i old, counted_sets c d)) (λ new. declared_set c d i new) (found_old_or_new (bytes_eq n) known (decl_name d).text (global_of c d) (ASet i) e)
 
-sets_behind : (known : Globals) (c : Counts) (ds : List Decl) → HasSets known c.sets → HasSets (globals_behind known c ds) (c.sets + length (of_each sets_in ds))
-sets_behind known c [] has n i e = omega (arith, has n i e)
-sets_behind known c (d ∷ ds) has n i e =
-    omega (arith, sets_behind (with_declared known c d) (counts_after c d) ds (sets_more known c d has) n i e, counted_sets c d, length-append (sets_in d) (of_each sets_in ds))
+sets_after : (known : Globals) (c : Counts) (ds : List Decl) → HasSets known c.sets → HasSets (globals_after known c ds) (c.sets + length (of_each sets_in ds))
+sets_after known c [] has n i e = omega (arith, has n i e)
+sets_after known c (d ∷ ds) has n i e =
+    omega (arith, sets_after (with_declared known c d) (counts_after c d) ds (sets_more known c d has) n i e, counted_sets c d, length-append (sets_in d) (of_each sets_in ds))
 
 pub set_known : (ds : List Decl) (o : Option Name) (i : ℕ) → set_in (globals_of ds) o ≡ Some i → i < length (of_each sets_in ds)
 set_known ds None i e = absurd (none-some i e)
@@ -133,4 +133,4 @@ set_known ds (Some n) i e = by (global_in (globals_of ds) n.text) refl e
     by None is e = absurd (none-some i e)
     by (Some (AType t)) is e = absurd (none-some i e)
     by (Some (AFunction f)) is e = absurd (none-some i e)
-    by (Some (ASet j)) is e = omega (arith, sets_behind [] no_counts ds (λ m k no_such. absurd (none-some _ no_such)) n.text j is, same_Some j i e)
+    by (Some (ASet j)) is e = omega (arith, sets_after [] no_counts ds (λ m k no_such. absurd (none-some _ no_such)) n.text j is, same_Some j i e)

@@ -7,7 +7,7 @@ use Rattle.vlt_syntax.specs.Lists.{Each}
 use Rattle.vlt_core.specs.declared.rules.TheConstants as rule
 use Rattle.vlt_kinds_types.specs.Types.{KeyUse}
 use Rattle.vlt_kinds_heads.specs.Places.{entry_key, is_fresh}
-use Rattle.vlt_kinds_heads.specs.Keys.{Keys, facts_of, note, is_unknown, with_result, with_parameter, with_entry, behind_result, behind_parameters, behind_entry, behind_clause, places_behind, typed_first, fresh_typed, parameters_typed, typed_keys, keys_behind}
+use Rattle.vlt_kinds_heads.specs.Keys.{Keys, facts_of, note, is_unknown, with_result, with_parameter, with_entry, following_result, after_parameters, following_entry, following_clause, places_after, typed_first, fresh_typed, parameters_typed, typed_keys, keys_after}
 use Rattle.vlt_kinds_heads.specs.Heads.{again_refused, entries_again}
 use Rattle.vlt_kinds_heads.specs.declared.facts.Facts.{Facts}
 use Rattle.vlt_kinds_heads.specs.declared.facts.Typing.{Typing}
@@ -24,15 +24,15 @@ use_key u = u.key
 abbrev pub key_of : Entry → List ℕ
 key_of e = (entry_key e).text
 
-result_notes : (keys : Keys) (us : List KeyUse) → behind_result keys us ≡ notes use_key with_result keys us
+result_notes : (keys : Keys) (us : List KeyUse) → following_result keys us ≡ notes use_key with_result keys us
 result_notes keys [] = refl
 result_notes keys (u ∷ us) = result_notes (note keys u.key (with_result u)) us
 
-parameter_notes : (keys : Keys) (us : List KeyUse) → behind_parameters keys us ≡ notes use_key with_parameter keys us
+parameter_notes : (keys : Keys) (us : List KeyUse) → after_parameters keys us ≡ notes use_key with_parameter keys us
 parameter_notes keys [] = refl
 parameter_notes keys (u ∷ us) = parameter_notes (note keys u.key (with_parameter u)) us
 
-clause_notes : (keys : Keys) (es : List Entry) → behind_clause keys es ≡ notes key_of with_entry keys es
+clause_notes : (keys : Keys) (es : List Entry) → following_clause keys es ≡ notes key_of with_entry keys es
 clause_notes keys [] = refl
 clause_notes keys (e ∷ es) = clause_notes (note keys (key_of e) (with_entry e)) es
 
@@ -66,46 +66,46 @@ or_second true b e = refl
 or_second false b e = e
 
 module _ (rs ps : List KeyUse) (es : List Entry) where
-  abbrev behind_results : Keys
-  behind_results = notes use_key with_result [] rs
+  abbrev after_results : Keys
+  after_results = notes use_key with_result [] rs
 
-  abbrev behind_types : Keys
-  behind_types = notes use_key with_parameter behind_results ps
+  abbrev after_types : Keys
+  after_types = notes use_key with_parameter after_results ps
 
   abbrev places : Keys
-  places = notes key_of with_entry behind_types es
+  places = notes key_of with_entry after_types es
 
   abbrev pub all_keys : Keys
   all_keys = parameters_typed (fresh_typed places rs) ps
 
-  pub places_are : places_behind rs ps es ≡ places
-  unfolding places_behind
+  pub places_are : places_after rs ps es ≡ places
+  unfolding places_after
   places_are =
-      clause_notes (behind_parameters (behind_result [] rs) ps) es
-      ∙ ap (λ keys. notes key_of with_entry keys es) (parameter_notes (behind_result [] rs) ps ∙ ap (λ keys. notes use_key with_parameter keys ps) (result_notes [] rs))
+      clause_notes (after_parameters (following_result [] rs) ps) es
+      ∙ ap (λ keys. notes key_of with_entry keys es) (parameter_notes (following_result [] rs) ps ∙ ap (λ keys. notes use_key with_parameter keys ps) (result_notes [] rs))
 
-  pub keys_are : keys_behind rs ps es ≡ all_keys
-  unfolding keys_behind typed_keys
+  pub keys_are : keys_after rs ps es ≡ all_keys
+  unfolding keys_after typed_keys
   keys_are = ap (λ keys. parameters_typed (fresh_typed keys rs) ps) places_are
 
   pub is_table : IsTable 0 all_keys
   is_table =
       parameters_table (fresh_typed places rs) ps (fresh_table places rs
-      (notes_table key_of with_entry (λ e f. refl) behind_types es
-      (notes_table use_key with_parameter (λ u f. refl) behind_results ps
+      (notes_table key_of with_entry (λ e f. refl) after_types es
+      (notes_table use_key with_parameter (λ u f. refl) after_results ps
       (notes_table use_key with_result (λ u f. refl) [] rs tt))))
 
   typed_in : (j : List ℕ) → IsIn places j → IsIn all_keys j
   typed_in j x = parameters_in (fresh_typed places rs) ps j (fresh_in places rs j x)
 
   pub results_in : Each (λ u. IsIn all_keys u.key) rs
-  results_in = each_other _ _ (λ u x. typed_in u.key (notes_keep key_of with_entry behind_types es u.key (notes_keep use_key with_parameter behind_results ps u.key x))) rs (notes_add use_key with_result [] rs)
+  results_in = each_other _ _ (λ u x. typed_in u.key (notes_keep key_of with_entry after_types es u.key (notes_keep use_key with_parameter after_results ps u.key x))) rs (notes_add use_key with_result [] rs)
 
   pub parameters_all_in : Each (λ u. IsIn all_keys u.key) ps
-  parameters_all_in = each_other _ _ (λ u x. typed_in u.key (notes_keep key_of with_entry behind_types es u.key x)) ps (notes_add use_key with_parameter behind_results ps)
+  parameters_all_in = each_other _ _ (λ u x. typed_in u.key (notes_keep key_of with_entry after_types es u.key x)) ps (notes_add use_key with_parameter after_results ps)
 
   pub entries_in : Each (λ e. IsIn all_keys (key_of e)) es
-  entries_in = each_other _ _ (λ e x. typed_in (key_of e) x) es (notes_add key_of with_entry behind_types es)
+  entries_in = each_other _ _ (λ e x. typed_in (key_of e) x) es (notes_add key_of with_entry after_types es)
 
   -- each key is one of the result, of the parameters or of the clause
   abbrev ComesFrom : List ℕ → Type 0
@@ -113,8 +113,8 @@ module _ (rs ps : List KeyUse) (es : List Entry) where
 
   from_places : (j : List ℕ) → IsIn places j → ComesFrom j
   from_places j x =
-      ⊎_elim (λ a. ⊎_elim (λ b. ⊎_elim (λ c. absurd (none-some c.0 c.1)) (λ d. inl d) (notes_from use_key with_result [] rs j b)) (λ d. inr (inl d)) (notes_from use_key with_parameter behind_results ps j a)) (λ d. inr (inr d))
-      (notes_from key_of with_entry behind_types es j x)
+      ⊎_elim (λ a. ⊎_elim (λ b. ⊎_elim (λ c. absurd (none-some c.0 c.1)) (λ d. inl d) (notes_from use_key with_result [] rs j b)) (λ d. inr (inl d)) (notes_from use_key with_parameter after_results ps j a)) (λ d. inr (inr d))
+      (notes_from key_of with_entry after_types es j x)
 
   pub comes_from : (j : List ℕ) → IsIn all_keys j → ComesFrom j
   comes_from j x =
@@ -132,21 +132,21 @@ module _ (rs ps : List KeyUse) (es : List Entry) where
   never false e f = true≢false (sym e)
 
   -- parameters
-  in_clause_stays : (j : List ℕ) → (facts_of behind_types j).in_parameters ≡ true → (facts_of places j).in_parameters ≡ true
-  in_clause_stays j e = sticks key_of with_entry (λ f. f.in_parameters) (λ m n. refl) (λ x f e. e) behind_types es j e
+  in_clause_stays : (j : List ℕ) → (facts_of after_types j).in_parameters ≡ true → (facts_of places j).in_parameters ≡ true
+  in_clause_stays j e = sticks key_of with_entry (λ f. f.in_parameters) (λ m n. refl) (λ x f e. e) after_types es j e
 
   pub in_parameters_all : Each (λ u. (facts_of all_keys u.key).in_parameters ≡ true) ps
   in_parameters_all = each_other _ _ (λ u x. as_placed (λ f. f.in_parameters) (λ m n. refl) (λ t at f. refl) u.key ∙ in_clause_stays u.key (x tt)) ps
-      (tells use_key with_parameter (λ f. f.in_parameters) (λ m n. refl) (λ u. Unit {0}) (λ u f p. refl) (λ u f e. refl) behind_results ps)
+      (tells use_key with_parameter (λ f. f.in_parameters) (λ m n. refl) (λ u. Unit {0}) (λ u f p. refl) (λ u f e. refl) after_results ps)
 
   pub in_parameters_from : (j : List ℕ) → (facts_of all_keys j).in_parameters ≡ true → SomeOf (λ u. j ≡ u.key) ps
   in_parameters_from j e =
       let here = sym (as_placed (λ f. f.in_parameters) (λ m n. refl) (λ t at f. refl) j) ∙ e in
-      ⊎_elim (λ a. ⊎_elim (λ b. absurd (no_result b)) (λ d. some_weaker d) (told use_key with_parameter (λ f. f.in_parameters) (λ m n. refl) (λ u. Unit {0}) (λ u f e. inr tt) behind_results ps j a))
+      ⊎_elim (λ a. ⊎_elim (λ b. absurd (no_result b)) (λ d. some_weaker d) (told use_key with_parameter (λ f. f.in_parameters) (λ m n. refl) (λ u. Unit {0}) (λ u f e. inr tt) after_results ps j a))
       (λ d. from_some _ (λ x y. absurd y.1) es d)
-      (told key_of with_entry (λ f. f.in_parameters) (λ m n. refl) (λ u. ⊥) (λ x f e. inl e) behind_types es j here)
+      (told key_of with_entry (λ f. f.in_parameters) (λ m n. refl) (λ u. ⊥) (λ x f e. inl e) after_types es j here)
     where
-      no_result : (facts_of behind_results j).in_parameters ≡ true → ⊥
+      no_result : (facts_of after_results j).in_parameters ≡ true → ⊥
       no_result e = ⊎_elim (λ a. true≢false (sym a)) (λ d. from_some _ (λ x y. y.1) rs d) (told use_key with_result (λ f. f.in_parameters) (λ m n. refl) (λ u. ⊥) (λ u f e. inl e) [] rs j e)
 
       some_weaker : SomeOf (λ u. (j ≡ u.key) × Unit {0}) ps → SomeOf (λ u. j ≡ u.key) ps
@@ -155,48 +155,48 @@ module _ (rs ps : List KeyUse) (es : List Entry) where
   pub tracked_from : (j : List ℕ) → (facts_of all_keys j).is_tracked_parameter ≡ true → SomeOf (λ u. (j ≡ u.key) × (u.tracked ≡ true)) ps
   tracked_from j e =
       let here = sym (as_placed (λ f. f.is_tracked_parameter) (λ m n. refl) (λ t at f. refl) j) ∙ e in
-      ⊎_elim (λ a. ⊎_elim (λ b. absurd (no_result b)) (λ d. d) (told use_key with_parameter (λ f. f.is_tracked_parameter) (λ m n. refl) (λ u. u.tracked ≡ true) (λ u f e. or_same f.is_tracked_parameter u.tracked e) behind_results ps j a))
+      ⊎_elim (λ a. ⊎_elim (λ b. absurd (no_result b)) (λ d. d) (told use_key with_parameter (λ f. f.is_tracked_parameter) (λ m n. refl) (λ u. u.tracked ≡ true) (λ u f e. or_same f.is_tracked_parameter u.tracked e) after_results ps j a))
       (λ d. from_some _ (λ x y. absurd y.1) es d)
-      (told key_of with_entry (λ f. f.is_tracked_parameter) (λ m n. refl) (λ u. ⊥) (λ x f e. inl e) behind_types es j here)
+      (told key_of with_entry (λ f. f.is_tracked_parameter) (λ m n. refl) (λ u. ⊥) (λ x f e. inl e) after_types es j here)
     where
-      no_result : (facts_of behind_results j).is_tracked_parameter ≡ true → ⊥
+      no_result : (facts_of after_results j).is_tracked_parameter ≡ true → ⊥
       no_result e = ⊎_elim (λ a. true≢false (sym a)) (λ d. from_some _ (λ x y. y.1) rs d) (told use_key with_result (λ f. f.is_tracked_parameter) (λ m n. refl) (λ u. ⊥) (λ u f e. inl e) [] rs j e)
 
   pub left_open_from : (j : List ℕ) → (facts_of all_keys j).is_left_open ≡ true → SomeOf (λ u. (j ≡ u.key) × (is_unknown u.wanted ≡ true)) ps
   left_open_from j e =
       let here = sym (as_placed (λ f. f.is_left_open) (λ m n. refl) (λ t at f. refl) j) ∙ e in
-      ⊎_elim (λ a. ⊎_elim (λ b. absurd (no_result b)) (λ d. d) (told use_key with_parameter (λ f. f.is_left_open) (λ m n. refl) (λ u. is_unknown u.wanted ≡ true) (λ u f e. or_same f.is_left_open (is_unknown u.wanted) e) behind_results ps j a))
+      ⊎_elim (λ a. ⊎_elim (λ b. absurd (no_result b)) (λ d. d) (told use_key with_parameter (λ f. f.is_left_open) (λ m n. refl) (λ u. is_unknown u.wanted ≡ true) (λ u f e. or_same f.is_left_open (is_unknown u.wanted) e) after_results ps j a))
       (λ d. from_some _ (λ x y. absurd y.1) es d)
-      (told key_of with_entry (λ f. f.is_left_open) (λ m n. refl) (λ u. ⊥) (λ x f e. inl e) behind_types es j here)
+      (told key_of with_entry (λ f. f.is_left_open) (λ m n. refl) (λ u. ⊥) (λ x f e. inl e) after_types es j here)
     where
-      no_result : (facts_of behind_results j).is_left_open ≡ true → ⊥
+      no_result : (facts_of after_results j).is_left_open ≡ true → ⊥
       no_result e = ⊎_elim (λ a. true≢false (sym a)) (λ d. from_some _ (λ x y. y.1) rs d) (told use_key with_result (λ f. f.is_left_open) (λ m n. refl) (λ u. ⊥) (λ u f e. inl e) [] rs j e)
 
   -- `new` keys
   pub fresh_all : Each (λ e. is_fresh e ≡ true → (facts_of all_keys (key_of e)).is_fresh ≡ true) es
   fresh_all = each_other _ _ (λ e x p. as_placed (λ f. f.is_fresh) (λ m n. refl) (λ t at f. refl) (key_of e) ∙ x p) es
-      (tells key_of with_entry (λ f. f.is_fresh) (λ m n. refl) (λ e. is_fresh e ≡ true) (λ e f p. or_second f.is_fresh (is_fresh e) p) (λ e f q. or_first f.is_fresh (is_fresh e) q) behind_types es)
+      (tells key_of with_entry (λ f. f.is_fresh) (λ m n. refl) (λ e. is_fresh e ≡ true) (λ e f p. or_second f.is_fresh (is_fresh e) p) (λ e f q. or_first f.is_fresh (is_fresh e) q) after_types es)
 
   pub fresh_key_from : (j : List ℕ) → (facts_of all_keys j).is_fresh ≡ true → SomeOf (λ e. (j ≡ key_of e) × (is_fresh e ≡ true)) es
   fresh_key_from j e =
       let here = sym (as_placed (λ f. f.is_fresh) (λ m n. refl) (λ t at f. refl) j) ∙ e in
-      ⊎_elim (λ a. absurd (no_type a)) (λ d. d) (told key_of with_entry (λ f. f.is_fresh) (λ m n. refl) (λ e. is_fresh e ≡ true) (λ x f e. or_same f.is_fresh (is_fresh x) e) behind_types es j here)
+      ⊎_elim (λ a. absurd (no_type a)) (λ d. d) (told key_of with_entry (λ f. f.is_fresh) (λ m n. refl) (λ e. is_fresh e ≡ true) (λ x f e. or_same f.is_fresh (is_fresh x) e) after_types es j here)
     where
-      no_result : (facts_of behind_results j).is_fresh ≡ true → ⊥
+      no_result : (facts_of after_results j).is_fresh ≡ true → ⊥
       no_result e = ⊎_elim (λ a. true≢false (sym a)) (λ d. from_some _ (λ x y. y.1) rs d) (told use_key with_result (λ f. f.is_fresh) (λ m n. refl) (λ u. ⊥) (λ u f e. inl e) [] rs j e)
 
-      no_type : (facts_of behind_types j).is_fresh ≡ true → ⊥
-      no_type e = ⊎_elim no_result (λ d. from_some _ (λ x y. y.1) ps d) (told use_key with_parameter (λ f. f.is_fresh) (λ m n. refl) (λ u. ⊥) (λ u f e. inl e) behind_results ps j e)
+      no_type : (facts_of after_types j).is_fresh ≡ true → ⊥
+      no_type e = ⊎_elim no_result (λ d. from_some _ (λ x y. y.1) ps d) (told use_key with_parameter (λ f. f.is_fresh) (λ m n. refl) (λ u. ⊥) (λ u f e. inl e) after_results ps j e)
 
   -- the key of the result
   pub result_key_from : (j : List ℕ) → (facts_of all_keys j).is_result_key ≡ true → SomeOf (λ u. (j ≡ u.key) × (u.tracked ≡ true)) rs
   result_key_from j e =
       let here = sym (as_placed (λ f. f.is_result_key) (λ m n. refl) (λ t at f. refl) j) ∙ e in
-      ⊎_elim (λ a. ⊎_elim (λ b. by_result b) (λ d. from_some _ (λ x y. absurd y.1) ps d) (told use_key with_parameter (λ f. f.is_result_key) (λ m n. refl) (λ u. ⊥) (λ u f e. inl e) behind_results ps j a))
+      ⊎_elim (λ a. ⊎_elim (λ b. by_result b) (λ d. from_some _ (λ x y. absurd y.1) ps d) (told use_key with_parameter (λ f. f.is_result_key) (λ m n. refl) (λ u. ⊥) (λ u f e. inl e) after_results ps j a))
       (λ d. from_some _ (λ x y. absurd y.1) es d)
-      (told key_of with_entry (λ f. f.is_result_key) (λ m n. refl) (λ u. ⊥) (λ x f e. inl e) behind_types es j here)
+      (told key_of with_entry (λ f. f.is_result_key) (λ m n. refl) (λ u. ⊥) (λ x f e. inl e) after_types es j here)
     where
-      by_result : (facts_of behind_results j).is_result_key ≡ true → SomeOf (λ u. (j ≡ u.key) × (u.tracked ≡ true)) rs
+      by_result : (facts_of after_results j).is_result_key ≡ true → SomeOf (λ u. (j ≡ u.key) × (u.tracked ≡ true)) rs
       by_result e = ⊎_elim (λ a. absurd (true≢false (sym a))) (λ d. d) (told use_key with_result (λ f. f.is_result_key) (λ m n. refl) (λ u. u.tracked ≡ true) (λ u f e. or_same f.is_result_key u.tracked e) [] rs j e)
 
   -- no place but the result's and the parameters' gives a type
@@ -209,9 +209,9 @@ module _ (rs ps : List KeyUse) (es : List Entry) where
       untyped e =
           ⊎_elim
           (λ a. ⊎_elim (λ b. ⊎_elim (λ c. true≢false (sym c)) (λ d. from_some _ (λ x y. y.1) rs d) (told use_key with_result (λ f. is_some f.typing) (λ m n. refl) (λ u. ⊥) (λ u f e. inl e) [] rs j b))
-          (λ d. from_some _ (λ x y. y.1) ps d) (told use_key with_parameter (λ f. is_some f.typing) (λ m n. refl) (λ u. ⊥) (λ u f e. inl e) behind_results ps j a))
+          (λ d. from_some _ (λ x y. y.1) ps d) (told use_key with_parameter (λ f. is_some f.typing) (λ m n. refl) (λ u. ⊥) (λ u f e. inl e) after_results ps j a))
           (λ d. from_some _ (λ x y. y.1) es d)
-          (told key_of with_entry (λ f. is_some f.typing) (λ m n. refl) (λ u. ⊥) (λ x f e. inl e) behind_types es j (ap is_some e))
+          (told key_of with_entry (λ f. is_some f.typing) (λ m n. refl) (λ u. ⊥) (λ x f e. inl e) after_types es j (ap is_some e))
 
 -- ---- a key that stands in the result again
 
@@ -254,12 +254,12 @@ unfolding again_refused
 not_again keys [] j was none = tt
 not_again keys (e ∷ es) j was none = (
   λ same. true≢false (sym (subst (λ k. (facts_of keys k).in_clause ≡ true) same was) ∙ not_broken _ rule.CLAUSE_KEY_AGAIN _ (no_left (again_refused keys e) _ none)),
-  not_again (behind_entry keys e) es j (step_sticks key_of with_entry (λ f. f.in_clause) (λ m n. refl) (λ e f q. refl) keys e j was) (no_right (again_refused keys e) _ none),
+  not_again (following_entry keys e) es j (step_sticks key_of with_entry (λ f. f.in_clause) (λ m n. refl) (λ e f q. refl) keys e j was) (no_right (again_refused keys e) _ none),
 )
 
 pub apart : (keys : Keys) (es : List Entry) → entries_again keys es ≡ [] → AreApart es
 apart keys [] none = tt
 apart keys (e ∷ es) none = (
-  not_again (behind_entry keys e) es (key_of e) (ap (λ f. f.in_clause) (facts_noted keys (key_of e) (with_entry e))) (no_right (again_refused keys e) _ none),
-  apart (behind_entry keys e) es (no_right (again_refused keys e) _ none),
+  not_again (following_entry keys e) es (key_of e) (ap (λ f. f.in_clause) (facts_noted keys (key_of e) (with_entry e))) (no_right (again_refused keys e) _ none),
+  apart (following_entry keys e) es (no_right (again_refused keys e) _ none),
 )

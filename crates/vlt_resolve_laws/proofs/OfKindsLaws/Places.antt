@@ -15,7 +15,7 @@ use Rattle.vlt_kinds_types.specs.declared.shapes.Wanted.TheVariants as wanted
 use Rattle.vlt_kinds_types.specs.Files.{File}
 use Rattle.vlt_kinds_types.specs.Types.{KeyUse, argument_uses, named_uses, ty_uses, ty_refused, owned_refused}
 use Rattle.vlt_kinds_heads.specs.Places.{result_uses, parameter_uses, clause_in, entry_key, is_fresh, head_names}
-use Rattle.vlt_kinds_heads.specs.Keys.{Keys, facts_of, is_unknown, places_behind, keys_behind, keys_of}
+use Rattle.vlt_kinds_heads.specs.Keys.{Keys, facts_of, is_unknown, places_after, keys_after, keys_of}
 use Rattle.vlt_kinds_heads.specs.Bounds.{variables_refused}
 use Rattle.vlt_kinds_heads.specs.Heads.{result_type_refused, parameter_refused, names_refused, is_bound, type_rule, result_place, result_clash_with, result_clash, result_key_refused, entry_key_refused, entry_refused, main_refused, types_refused, clause_again, typings_refused, result_refused, head_refused_by, head_refused}
 use Rattle.vlt_kinds_heads.specs.declared.facts.Facts.{Facts}
@@ -106,24 +106,24 @@ module _ (file : File) (h : Head) where
   pub passed : head_refused file h ≡ [] → IsPassed
   unfolding head_refused_by types_refused clause_again typings_refused result_refused
   passed none =
-      let behind_types = no_right (types_refused file h) _ none in
-      let behind_names = no_right (names_refused file.globals (head_names file h)) _ behind_types in
-      let behind_clause = no_right (clause_again results parameters entries) _ behind_names in
-      let behind_typings = no_right (typings_refused (places_behind results parameters entries) results parameters) _ behind_clause in
-      let behind_result = no_right (result_refused (keys_behind results parameters entries) results) _ behind_typings in
-      let behind_entries = no_right (of_each (entry_refused file (keys_behind results parameters entries)) entries) _ behind_result in
-      let typings = no_left (typings_refused (places_behind results parameters entries) results parameters) _ behind_clause in
-      let result = no_left (result_refused (keys_behind results parameters entries) results) _ behind_typings in
+      let after_types = no_right (types_refused file h) _ none in
+      let after_names = no_right (names_refused file.globals (head_names file h)) _ after_types in
+      let following_clause = no_right (clause_again results parameters entries) _ after_names in
+      let after_typings = no_right (typings_refused (places_after results parameters entries) results parameters) _ following_clause in
+      let following_result = no_right (result_refused (keys_after results parameters entries) results) _ after_typings in
+      let after_entries = no_right (of_each (entry_refused file (keys_after results parameters entries)) entries) _ following_result in
+      let typings = no_left (typings_refused (places_after results parameters entries) results parameters) _ following_clause in
+      let result = no_left (result_refused (keys_after results parameters entries) results) _ after_typings in
       record {
         result_type = no_left _ _ (no_left (types_refused file h) _ none);
         types = no_right (result_type_refused file h.result_type) _ (no_left (types_refused file h) _ none);
-        apart = apart _ entries (no_left (clause_again results parameters entries) _ behind_names);
+        apart = apart _ entries (no_left (clause_again results parameters entries) _ after_names);
         wanted = unclashed _ parameters (sym (ap (λ keys. typings_refused keys results parameters) (places_are results parameters entries)) ∙ typings);
         clashes = rw table_is at (none_in_each (result_clash (keys_of file h)) results (no_left _ _ result));
         keys = rw table_is at (none_in_each (result_key_refused (keys_of file h)) results (no_right (of_each (result_clash (keys_of file h)) results) _ result));
-        entries_right = rw table_is at (none_in_each (entry_refused file (keys_of file h)) entries (no_left _ _ behind_result));
-        variables = rw table_is at (no_left (variables_refused file.globals (keys_of file h) h.parameters entries) _ behind_entries);
-        main = no_right (variables_refused file.globals (keys_of file h) h.parameters entries) _ behind_entries;
+        entries_right = rw table_is at (none_in_each (entry_refused file (keys_of file h)) entries (no_left _ _ following_result));
+        variables = rw table_is at (no_left (variables_refused file.globals (keys_of file h) h.parameters entries) _ after_entries);
+        main = no_right (variables_refused file.globals (keys_of file h) h.parameters entries) _ after_entries;
       }
 
 -- ---- what follows for each key

@@ -45,7 +45,7 @@ struct_is (a_variant d) k n = by (lists_keys d.cases) (has_owners d.cases)
 abbrev pub IsCopied : TypeDecl → Type 0
 IsCopied d = (c.is_variant (Some d) ≡ true) × ((lists_keys (cases_in (Some d)) || has_owners (cases_in (Some d))) ≡ false)
 
--- a variant that stands behind `tracked` owns
+-- a variant that stands after `tracked` owns
 abbrev IsOwner : TypeDecl → Type 0
 IsOwner d = (lists_keys (cases_in (Some d)) || has_owners (cases_in (Some d))) ≡ true
 

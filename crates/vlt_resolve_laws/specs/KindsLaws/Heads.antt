@@ -13,7 +13,7 @@ use Rattle.vlt_kinds_heads.specs.Externals.{external_refused}
 use Rattle.vlt_kinds_heads.specs.Phase.{core_head}
 use Rattle.vlt_resolve_laws.specs.KindsLaws.Shapes.{Describes, HasHeaders}
 
--- the function has the head, and keys and variables behind those of the head
+-- the function has the head, and keys and variables after those of the head
 pub record HasHead (head f : Func) : Type 0 where
   pub external : f.external ≡ head.external
   pub result : f.result ≡ head.result

@@ -86,7 +86,7 @@ module _ (r : Setup) (kinded : IsKinded r.program) (accepted : IsAccepted r.prog
           };
           ids = first_ids r.program g;
           map = start_map r.program g;
-          behind = body.2.1.0;
+          following = body.2.1.0;
           ended = false;
           here = record {
             entered = callee_entered g keys values agrees long call host_typed typed head entered scoped pass;

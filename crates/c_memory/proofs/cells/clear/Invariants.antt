@@ -6,7 +6,7 @@ abbrev pub invariant-loop-done : goal.invariant-loop-done
 invariant-loop-done l = record {
   inside : (k : ℕ) → l.from ≤ k → k < l.from + l.done → slice_get l.cells.items k ≡ Some Cell.Unset;
   before : (k : ℕ) → k < l.from → slice_get l.cells.items k ≡ slice_get l.fn.cells.items k;
-  behind : (k : ℕ) → l.from + l.done ≤ k → slice_get l.cells.items k ≡ slice_get l.fn.cells.items k;
+  following : (k : ℕ) → l.from + l.done ≤ k → slice_get l.cells.items k ≡ slice_get l.fn.cells.items k;
   long : length l.cells.items ≡ length l.fn.cells.items;
   room : vec_capacity l.cells ≡ vec_capacity l.fn.cells;
 }

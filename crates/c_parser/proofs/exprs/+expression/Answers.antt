@@ -16,23 +16,23 @@ at_operation depth ys fits = omega (arith, fits)
 at_closing : (depth : ℕ) (ys : List Symbol) → AtDepth (depth + 1) ys → AtDepth depth (closing ∷ ys)
 at_closing depth ys fits = omega (arith, fits)
 
-pub behind_paren-returns-in_err-left-in_default-clause-follows : goal.behind_paren-returns-in_err-left-in_default-clause-follows
-behind_paren-returns-in_err-left-in_default-clause-follows κ c =
+pub after_paren-returns-in_err-left-in_default-clause-follows : goal.after_paren-returns-in_err-left-in_default-clause-follows
+after_paren-returns-in_err-left-in_default-clause-follows κ c =
     let here = ahead c.args.lexemes.now c.args.at in
     let is : c.from_residual-in_err-left-in_default.result ≡ Err c.in_err-left-in_default.field-0.0 = first_of (search rules, grind (arith, common_steps)) in
     let none : begins_with is_prefix here ≡ false = first_of (search rules, grind (arith, common_steps)) in
     rw is (λ ys fits f told. inside_operand ys here none ∙ c.in_err-left-in_default.ensures.follows (operation ∷ ys) (at_operation c.args.depth ys fits) f told)
 
-pub behind_paren-returns-in_err-op-in_default-clause-follows : goal.behind_paren-returns-in_err-op-in_default-clause-follows
-behind_paren-returns-in_err-op-in_default-clause-follows κ c =
+pub after_paren-returns-in_err-op-in_default-clause-follows : goal.after_paren-returns-in_err-op-in_default-clause-follows
+after_paren-returns-in_err-op-in_default-clause-follows κ c =
     let here = ahead c.args.lexemes.now c.args.at in
     let is : c.from_residual-in_err-op-in_default.result ≡ Err c.in_err-op-in_default.field-0.0 = first_of (search rules, grind (arith, common_steps)) in
     let none : begins_with is_prefix here ≡ false = first_of (search rules, grind (arith, common_steps)) in
     rw is (λ ys fits f told. inside_operand ys here none ∙ c.in_ok-left-in_default.ensures.follows (operation ∷ ys) (at_operation c.args.depth ys fits)
     ∙ c.in_err-op-in_default.ensures.follows ys f told)
 
-pub behind_paren-returns-in_err-right-in_default-clause-follows : goal.behind_paren-returns-in_err-right-in_default-clause-follows
-behind_paren-returns-in_err-right-in_default-clause-follows κ c =
+pub after_paren-returns-in_err-right-in_default-clause-follows : goal.after_paren-returns-in_err-right-in_default-clause-follows
+after_paren-returns-in_err-right-in_default-clause-follows κ c =
     let here = ahead c.args.lexemes.now c.args.at in
     let is : c.from_residual-in_err-right-in_default.result ≡ Err c.in_err-right-in_default.field-0.0 = first_of (search rules, grind (arith, common_steps)) in
     let none : begins_with is_prefix here ≡ false = first_of (search rules, grind (arith, common_steps)) in
@@ -40,8 +40,8 @@ behind_paren-returns-in_err-right-in_default-clause-follows κ c =
     ∙ c.in_ok-op-in_default.ensures.follows ys
     ∙ c.in_err-right-in_default.ensures.follows (closing ∷ ys) (at_closing c.args.depth ys fits) f told)
 
-pub behind_paren-returns-in_err-next-in_default-clause-follows : goal.behind_paren-returns-in_err-next-in_default-clause-follows
-behind_paren-returns-in_err-next-in_default-clause-follows κ c =
+pub after_paren-returns-in_err-next-in_default-clause-follows : goal.after_paren-returns-in_err-next-in_default-clause-follows
+after_paren-returns-in_err-next-in_default-clause-follows κ c =
     let places = ahead c.args.lexemes.now in
     let here = places c.args.at in
     let is : c.from_residual-in_err-next-in_default.result ≡ Err c.in_err-next-in_default.field-0.0 = first_of (search rules, grind (arith, common_steps)) in

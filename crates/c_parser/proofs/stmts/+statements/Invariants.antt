@@ -16,11 +16,11 @@ decreases-stmts l = 4 * l.room + 1
 abbrev pub decreases-stmt : goal.decreases-stmt
 decreases-stmt l = 4 * l.room
 
-abbrev pub decreases-behind_if : goal.decreases-behind_if
-decreases-behind_if l = 4 * l.room + 3
+abbrev pub decreases-following_if : goal.decreases-following_if
+decreases-following_if l = 4 * l.room + 3
 
-abbrev pub decreases-behind_while : goal.decreases-behind_while
-decreases-behind_while l = 4 * l.room + 3
+abbrev pub decreases-after_while : goal.decreases-after_while
+decreases-after_while l = 4 * l.room + 3
 
 abbrev pub decreases-stmts-loop-alloc : goal.decreases-stmts-loop-alloc
 decreases-stmts-loop-alloc l = length l.lexemes - l.here

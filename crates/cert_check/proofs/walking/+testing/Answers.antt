@@ -54,7 +54,7 @@ test_if-returns t c =
     let p = c.in_ok-inside.ensures.outcome in
     let w = c.in_ok-first.ensures.outcome in
     let v = c.in_ok-second.ensures.outcome in
-    choose_tested _ _ _ _ _ _ _ _ _ _ _ _ _ p.0 p.1 (ap map_of c.in_ok-other.ensures ∙ p.1) w.1.at w.0 v.0 (rw (w.1.passes, v.1.passes) at c.either.ensures) v.1.at c.behind.ensures
+    choose_tested _ _ _ _ _ _ _ _ _ _ _ _ _ p.0 p.1 (ap map_of c.in_ok-other.ensures ∙ p.1) w.1.at w.0 v.0 (rw (w.1.passes, v.1.passes) at c.either.ensures) v.1.at c.following.ensures
 
 -- ---- loops
 
@@ -234,7 +234,7 @@ pub test_form-returns-in_ok-way-in-Switch : goal.test_form-returns-in_ok-way-in-
 test_form-returns-in_ok-way-in-Switch t c =
     let p = rw c.as_slice-in-Switch.ensures at c.in_ok-inside-in-Switch.ensures.outcome in
     let w = rw c.as_slice-in-Switch-2.ensures at c.in_ok-way-in-Switch.ensures.outcome in
-    rw (switch_form _ _ _ _ c.in-Switch.is) (switch_tested (annotation_of c.args.given.now) c.args.l c.args.n (map_of c.args.held) (rows_view c.in-Switch.rows) (arms_view c.in-Switch.arms) c.in-Switch.end _ p.0 p.1 _ _ w.0 w.1 c.behind.ensures)
+    rw (switch_form _ _ _ _ c.in-Switch.is) (switch_tested (annotation_of c.args.given.now) c.args.l c.args.n (map_of c.args.held) (rows_view c.in-Switch.rows) (arms_view c.in-Switch.arms) c.in-Switch.end _ p.0 p.1 _ _ w.0 w.1 c.following.ensures)
 
 pub test_form-test_block-requires : goal.test_form-test_block-requires
 test_form-test_block-requires t c =

@@ -2,7 +2,7 @@ use Rattle.std.proofs.Common.{◌∙◌, ap, ◌<◌, length, arith}
 use Rattle.vlt_core.specs.Core.{Func, Program}
 use Rattle.vlt_core.specs.View.{form_of, block_of}
 use Rattle.vlt_core.specs.KindedScopes.{Ids, Around}
-use Rattle.vlt_core.specs.KindedBodies.{form_rows, block_rows, ids_behind_block}
+use Rattle.vlt_core.specs.KindedBodies.{form_rows, block_rows, ids_following_block}
 use Rattle.vlt_core.specs.declared.program.Arm.{out-Arm}
 use Rattle.vlt_core.proofs.Views.{if_form, while_form, switch_form, focus_form}
 use Rattle.cert_kinds_types.specs.Least.{lesser}
@@ -27,7 +27,7 @@ walk_form-returns-in_ok-second-in-If-clause-walked t c =
     as_form p f around ids (tally_of c.args.tally) c.after_rule.result _ _
     (if_form _ _ _ _ c.in-If.is)
     (after_first _ _ _ (block_rows p f around ids (block_of c.in-If.then_block))
-    (block_rows p f around (ids_behind_block p f (block_of c.in-If.then_block) ids) (block_of c.in-If.else_block))
+    (block_rows p f around (ids_following_block p f (block_of c.in-If.then_block) ids) (block_of c.in-If.else_block))
     (tally_of c.args.tally) c.condition_broken-own.result c.lesser.result c.in_ok-first-in-If.first c.in_ok-second-in-If.second c.after_rule.result c.condition_broken-own.ensures
     c.in_ok-first-in-If.ensures.walked second c.lesser.ensures c.after_rule.ensures)
 

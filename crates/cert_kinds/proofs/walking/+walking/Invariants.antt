@@ -12,8 +12,8 @@ abbrev pub invariant-walk_stmts-loop-stmt : goal.invariant-walk_stmts-loop-stmt
 invariant-walk_stmts-loop-stmt l = record {
   tally : tallied (tally_of l.fn.tally) (s.stmts_rows (program_in l.scope) (func_in l.scope) (around_of l.around) (ids_of l.initial.ids) false (stmts_of l.stmts))
       ≡ tallied (tally_of l.all) (s.stmts_rows (program_in l.scope) (func_in l.scope) (around_of l.around) (ids_of l.ids) l.ended (stmts_of (drop l.stmt-index l.stmts)));
-  bound : s.ids_behind_stmts (program_in l.scope) (func_in l.scope) (stmts_of l.stmts) (ids_of l.initial.ids)
-      ≡ s.ids_behind_stmts (program_in l.scope) (func_in l.scope) (stmts_of (drop l.stmt-index l.stmts)) (ids_of l.ids);
+  bound : s.ids_following_stmts (program_in l.scope) (func_in l.scope) (stmts_of l.stmts) (ids_of l.initial.ids)
+      ≡ s.ids_following_stmts (program_in l.scope) (func_in l.scope) (stmts_of (drop l.stmt-index l.stmts)) (ids_of l.ids);
 }
 
 abbrev pub invariant-walk_arms-loop-arm : goal.invariant-walk_arms-loop-arm
@@ -22,6 +22,6 @@ invariant-walk_arms-loop-arm l = record {
       ≡ lesser l.all.rule (least (s.arms_broken (program_in l.scope) (func_in l.scope) (ids_of l.ids) l.v.0 (arms_of (drop l.arm-index l.arms))));
   tally : tallied (tally_of l.fn.tally) (s.arms_rows (program_in l.scope) (func_in l.scope) (around_of l.around) (ids_of l.initial.ids) (arms_of l.arms))
       ≡ tallied (tally_of l.all.tally) (s.arms_rows (program_in l.scope) (func_in l.scope) (around_of l.around) (ids_of l.ids) (arms_of (drop l.arm-index l.arms)));
-  bound : s.ids_behind_arms (program_in l.scope) (func_in l.scope) (arms_of l.arms) (ids_of l.initial.ids)
-      ≡ s.ids_behind_arms (program_in l.scope) (func_in l.scope) (arms_of (drop l.arm-index l.arms)) (ids_of l.ids);
+  bound : s.ids_following_arms (program_in l.scope) (func_in l.scope) (arms_of l.arms) (ids_of l.initial.ids)
+      ≡ s.ids_following_arms (program_in l.scope) (func_in l.scope) (arms_of (drop l.arm-index l.arms)) (ids_of l.ids);
 }

@@ -5,7 +5,7 @@ use Rattle.cert_values.specs.Heads.{token_status_of}
 use Rattle.cert_values.specs.Laid.{items_laid}
 use Rattle.cert_values.proofs.maps.put_map.Given as goal
 
--- what is left, behind what was written, is the whole
+-- what is left, after what was written, is the whole
 abbrev pub invariant-loop-pair : goal.invariant-loop-pair
 invariant-loop-pair l =
     items_laid (items_of (map token_status.data_of (map token_status_of (drop l.pair-index l.held.pairs)))) l.out ≡ items_laid (items_of (map token_status.data_of (map token_status_of l.held.pairs))) l.initial.out

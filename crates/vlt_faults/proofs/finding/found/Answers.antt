@@ -4,4 +4,4 @@ use Rattle.vlt_faults.proofs.finding.found.Goals as goal
 pub spread-requires : goal.spread-requires
 spread-requires c =
     let k = c.in_ok-kept.ensures in
-    record { room = record { fits = omega (arith, k.around, c.requires.count); long = k.behind ∙ sym k.around; few = omega (arith, k.around, c.requires.few); loop = tt }; none = record { around = λ i o h. absurd ((k.none i).none o h); behind = λ i o h. absurd ((k.none_behind i).none o h) } }
+    record { room = record { fits = omega (arith, k.around, c.requires.count); long = k.following ∙ sym k.around; few = omega (arith, k.around, c.requires.few); loop = tt }; none = record { around = λ i o h. absurd ((k.none i).none o h); following = λ i o h. absurd ((k.none_after i).none o h) } }

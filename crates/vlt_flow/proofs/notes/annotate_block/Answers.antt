@@ -9,9 +9,9 @@ use Rattle.vlt_flow.proofs.notes.annotate_block.Goals as goal
 pub note_block-requires : goal.note_block-requires
 note_block-requires c =
     let a = c.in-Ok.ensures.around in
-    let b = c.in-Ok.ensures.behind in
+    let b = c.in-Ok.ensures.following in
     let f = c.in-Ok.ensures.few in
-    record { room = record { around = omega (arith, a); behind = omega (arith, b); few = omega (arith, a, f) } }
+    record { room = record { around = omega (arith, a); following = omega (arith, b); few = omega (arith, a, f) } }
 
 pub returns-in_ok-_end-in-Ok-clause-listed : goal.returns-in_ok-_end-in-Ok-clause-listed
 returns-in_ok-_end-in-Ok-clause-listed c =

@@ -48,18 +48,18 @@ walk_way-returns-in-None-clause-ok t c = way_none _ _ _ _ _ _ _ c.requires.room 
 pub walk_way-returns-in-None-clause-passes : goal.walk_way-returns-in-None-clause-passes
 walk_way-returns-in-None-clause-passes t c = sym (way_passes_none _ _ _ _ _ _ _ (rw c.in-None.is at c.in_ok-held.ensures.ok))
 
-pub walk_way-returns-in_ok-join_behind-in-Some-clause-ok : goal.walk_way-returns-in_ok-join_behind-in-Some-clause-ok
-walk_way-returns-in_ok-join_behind-in-Some-clause-ok t c =
-    let f = c.in_ok-join_behind-in-Some.ensures in
+pub walk_way-returns-in_ok-join_after-in-Some-clause-ok : goal.walk_way-returns-in_ok-join_after-in-Some-clause-ok
+walk_way-returns-in_ok-join_after-in-Some-clause-ok t c =
+    let f = c.in_ok-join_after-in-Some.ensures in
     way_some _ _ _ _ _ _ _ _ _ c.requires.room (rw c.in-Some.is at c.in_ok-held.ensures.ok) (record { long = f.long; into = f.into; others = f.others; around = f.around })
 
-pub walk_way-returns-in_ok-join_behind-in-Some-clause-passes : goal.walk_way-returns-in_ok-join_behind-in-Some-clause-passes
-walk_way-returns-in_ok-join_behind-in-Some-clause-passes t c = sym (way_passes_some _ _ _ _ _ _ _ _ (rw c.in-Some.is at c.in_ok-held.ensures.ok))
+pub walk_way-returns-in_ok-join_after-in-Some-clause-passes : goal.walk_way-returns-in_ok-join_after-in-Some-clause-passes
+walk_way-returns-in_ok-join_after-in-Some-clause-passes t c = sym (way_passes_some _ _ _ _ _ _ _ _ (rw c.in-Some.is at c.in_ok-held.ensures.ok))
 
-pub walk_way-returns-in_err-join_behind-in-Some-clause-refused : goal.walk_way-returns-in_err-join_behind-in-Some-clause-refused
-walk_way-returns-in_err-join_behind-in-Some-clause-refused t c =
+pub walk_way-returns-in_err-join_after-in-Some-clause-refused : goal.walk_way-returns-in_err-join_after-in-Some-clause-refused
+walk_way-returns-in_err-join_after-in-Some-clause-refused t c =
     let w = rw c.in-Some.is at c.in_ok-held.ensures.ok in
-    handed _ _ _ c.from_residual-in_err-join_behind-in-Some.ensures.1 c.in_err-join_behind-in-Some.was (way_join_none _ _ _ _ _ _ _ _ _ w) c.join_behind.ensures.refused
+    handed _ _ _ c.from_residual-in_err-join_after-in-Some.ensures.1 c.in_err-join_after-in-Some.was (way_join_none _ _ _ _ _ _ _ _ _ w) c.join_after.ensures.refused
 
 -- ---- lists
 
@@ -118,30 +118,30 @@ walk_turn-returns-in_err-inside-clause-refused t c =
     let never = rw c.in_ok-copy.ensures at c.pass.ensures.refused in
     handed _ _ _ c.from_residual-in_err-inside.ensures.1 c.in_err-inside.was (turn_rows_none _ _ _ _ _ c.requires.before) never
 
-pub walk_turn-returns-in_err-join_copy_behind-clause-refused : goal.walk_turn-returns-in_err-join_copy_behind-clause-refused
-walk_turn-returns-in_err-join_copy_behind-clause-refused t c =
+pub walk_turn-returns-in_err-join_copy_after-clause-refused : goal.walk_turn-returns-in_err-join_copy_after-clause-refused
+walk_turn-returns-in_err-join_copy_after-clause-refused t c =
     let pass = rw c.in_ok-copy.ensures at c.in_ok-inside.ensures.ok in
-    let never = c.join_copy_behind.ensures.refused in
-    handed _ _ _ c.from_residual-in_err-join_copy_behind.ensures.1 c.in_err-join_copy_behind.was (turn_exit_none _ _ _ _ _ _ c.requires.before pass) never
+    let never = c.join_copy_after.ensures.refused in
+    handed _ _ _ c.from_residual-in_err-join_copy_after.ensures.1 c.in_err-join_copy_after.was (turn_exit_none _ _ _ _ _ _ c.requires.before pass) never
 
 pub walk_turn-returns-in_err-held-clause-refused : goal.walk_turn-returns-in_err-held-clause-refused
 walk_turn-returns-in_err-held-clause-refused t c =
     let pass = rw c.in_ok-copy.ensures at c.in_ok-inside.ensures.ok in
-    let f = c.in_ok-join_copy_behind.ensures in
+    let f = c.in_ok-join_copy_after.ensures in
     let into = f.into in
     handed _ _ _ c.from_residual-in_err-held.ensures.1 c.in_err-held.was (turn_body_none _ _ _ _ _ _ _ c.requires.before pass (record { long = f.long; into = into; others = f.others; around = f.around })) c.walk_block.ensures.refused
 
 pub walk_turn-walk_block-requires : goal.walk_turn-walk_block-requires
 walk_turn-walk_block-requires t c =
     let pass = rw c.in_ok-copy.ensures at c.in_ok-inside.ensures.ok in
-    let f = c.in_ok-join_copy_behind.ensures in
+    let f = c.in_ok-join_copy_after.ensures in
     let into = f.into in
     (omega (arith, c.decreases), room_inside _ _ _ _ _ _ c.requires.room (omega arith) c.requires.before (record { long = f.long; into = into; others = f.others; around = f.around }))
 
 pub walk_turn-returns-in_err-join_around-in-Some-clause-refused : goal.walk_turn-returns-in_err-join_around-in-Some-clause-refused
 walk_turn-returns-in_err-join_around-in-Some-clause-refused t c =
     let pass = rw c.in_ok-copy.ensures at c.in_ok-inside.ensures.ok in
-    let f = c.in_ok-join_copy_behind.ensures in
+    let f = c.in_ok-join_copy_after.ensures in
     let into = f.into in
     let w = rw c.in-Some.is at c.in_ok-held.ensures.ok in
     handed _ _ _ c.from_residual-in_err-join_around-in-Some.ensures.1 c.in_err-join_around-in-Some.was (turn_back_none _ _ _ _ _ _ _ _ _ _ c.requires.before pass (record { long = f.long; into = into; others = f.others; around = f.around }) w) c.join_around.ensures.refused
@@ -149,16 +149,16 @@ walk_turn-returns-in_err-join_around-in-Some-clause-refused t c =
 pub walk_turn-returns-in_ok-join_around-in-Some-clause-ok : goal.walk_turn-returns-in_ok-join_around-in-Some-clause-ok
 walk_turn-returns-in_ok-join_around-in-Some-clause-ok t c =
     let pass = rw c.in_ok-copy.ensures at c.in_ok-inside.ensures.ok in
-    let f = c.in_ok-join_copy_behind.ensures in
+    let f = c.in_ok-join_copy_after.ensures in
     let into = f.into in
     let w = rw c.in-Some.is at c.in_ok-held.ensures.ok in
     let g = c.in_ok-join_around-in-Some.ensures in
-    turn_some _ _ _ _ _ _ _ _ _ _ c.requires.room c.requires.before pass (record { long = f.long; into = into; others = f.others; around = f.around }) w (record { long = g.long; into = g.into; others = g.others; behind = g.behind })
+    turn_some _ _ _ _ _ _ _ _ _ _ c.requires.room c.requires.before pass (record { long = f.long; into = into; others = f.others; around = f.around }) w (record { long = g.long; into = g.into; others = g.others; following = g.following })
 
 pub walk_turn-returns-in-None-clause-ok : goal.walk_turn-returns-in-None-clause-ok
 walk_turn-returns-in-None-clause-ok t c =
     let pass = rw c.in_ok-copy.ensures at c.in_ok-inside.ensures.ok in
-    let f = c.in_ok-join_copy_behind.ensures in
+    let f = c.in_ok-join_copy_after.ensures in
     let into = f.into in
     turn_none _ _ _ _ _ _ _ _ _ c.requires.before pass (record { long = f.long; into = into; others = f.others; around = f.around }) (rw c.in-None.is at c.in_ok-held.ensures.ok)
 
@@ -261,20 +261,20 @@ walk_if-returns-in_err-second-clause-refused t c =
     let never = rw (c.in_ok-first.ensures.at, c.in_ok-other.ensures) at c.walk_way-2.ensures.refused in
     handed _ _ _ c.from_residual-in_err-second.ensures.1 c.in_err-second.was (choose_second_none _ _ _ _ _ _ _ _ _ c.in_ok-inside.ensures.ok c.in_ok-first.ensures.ok) never
 
-pub walk_if-behind-requires : goal.walk_if-behind-requires
-walk_if-behind-requires t c =
+pub walk_if-following-requires : goal.walk_if-following-requires
+walk_if-following-requires t c =
     let room = c.requires.room in
     let first = c.in_ok-first.ensures.ok in
     let second = rw (c.in_ok-first.ensures.at, c.in_ok-other.ensures) at c.in_ok-second.ensures.ok in
     record {
-      within = omega (arith, room.fits, room.long, first.frame.long_behind, second.frame.long_behind);
+      within = omega (arith, room.fits, room.long, first.frame.long_after, second.frame.long_after);
       some = λ e. ways_there _ _ _ _ _ _ _ _ _ _ _ first second (rw (c.either.ensures, c.in_ok-first.ensures.passes, c.in_ok-second.ensures.passes) at e);
     }
 
 pub walk_if-returns-clause-ok : goal.walk_if-returns-clause-ok
 walk_if-returns-clause-ok t c =
     let second = rw (c.in_ok-first.ensures.at, c.in_ok-other.ensures) at c.in_ok-second.ensures.ok in
-    let place = rw (c.either.ensures, c.in_ok-first.ensures.passes, c.in_ok-second.ensures.passes) at c.behind.ensures.place in
+    let place = rw (c.either.ensures, c.in_ok-first.ensures.passes, c.in_ok-second.ensures.passes) at c.following.ensures.place in
     IfOk-weaker {Y = Halt} _ _ _ (λ r q. choose_walked _ _ _ _ _ _ _ _ _ _ _ c.requires.room c.in_ok-inside.ensures.ok c.in_ok-first.ensures.ok second q) place
 
 -- ---- forms
@@ -298,27 +298,27 @@ pub walk_form-walk_turns-requires : goal.walk_form-walk_turns-requires
 walk_form-walk_turns-requires t c =
     let room = rw (while_form _ _ _ c.in-While.is) at c.requires.room in
     let g = c.in_ok-join_around-in-While.ensures in
-    (omega (arith, c.decreases, ap size (while_form _ _ _ c.in-While.is)), (room_put _ _ _ _ _ _ room (record { long = g.long; into = g.into; others = g.others; behind = g.behind }), g.into.some))
+    (omega (arith, c.decreases, ap size (while_form _ _ _ c.in-While.is)), (room_put _ _ _ _ _ _ room (record { long = g.long; into = g.into; others = g.others; following = g.following }), g.into.some))
 
 pub walk_form-returns-in_err-at-in-While-clause-refused : goal.walk_form-returns-in_err-at-in-While-clause-refused
 walk_form-returns-in_err-at-in-While-clause-refused t c =
     let g = c.in_ok-join_around-in-While.ensures in
     let never = rw c.as_slice-in-While.ensures at c.walk_turns.ensures.refused in
-    rw (while_form _ _ _ c.in-While.is) (handed _ _ _ c.from_residual-in_err-at-in-While.ensures.1 c.in_err-at-in-While.was (loop_turns_none c.args.l c.args.n (rows_view c.in-While.rows) (block_view c.in-While.body) c.args.held c.args.kept.now _ (record { long = g.long; into = g.into; others = g.others; behind = g.behind })) never)
+    rw (while_form _ _ _ c.in-While.is) (handed _ _ _ c.from_residual-in_err-at-in-While.ensures.1 c.in_err-at-in-While.was (loop_turns_none c.args.l c.args.n (rows_view c.in-While.rows) (block_view c.in-While.body) c.args.held c.args.kept.now _ (record { long = g.long; into = g.into; others = g.others; following = g.following })) never)
 
-pub walk_form-copy_behind-requires : goal.walk_form-copy_behind-requires
-walk_form-copy_behind-requires t c =
+pub walk_form-copy_after-requires : goal.walk_form-copy_after-requires
+walk_form-copy_after-requires t c =
     let room = rw (while_form _ _ _ c.in-While.is) at c.requires.room in
     let g = c.in_ok-join_around-in-While.ensures in
     let turned = c.in_ok-at-in-While.ensures.ok in
-    record { within = omega (arith, room.fits, room.long, ap length g.behind, turned.frame.long_behind); some = turned.some }
+    record { within = omega (arith, room.fits, room.long, ap length g.following, turned.frame.long_after); some = turned.some }
 
 pub walk_form-returns-in_ok-exit-in-While-clause-ok : goal.walk_form-returns-in_ok-exit-in-While-clause-ok
 walk_form-returns-in_ok-exit-in-While-clause-ok t c =
     let room = rw (while_form _ _ _ c.in-While.is) at c.requires.room in
     let g = c.in_ok-join_around-in-While.ensures in
     let turned = rw c.as_slice-in-While.ensures at c.in_ok-at-in-While.ensures.ok in
-    rw (while_form _ _ _ c.in-While.is, c.comes-in-While.ensures.held) (loop_walked _ _ _ _ _ _ _ _ _ room (record { long = g.long; into = g.into; others = g.others; behind = g.behind }) turned c.in_ok-exit-in-While.ensures.same)
+    rw (while_form _ _ _ c.in-While.is, c.comes-in-While.ensures.held) (loop_walked _ _ _ _ _ _ _ _ _ room (record { long = g.long; into = g.into; others = g.others; following = g.following }) turned c.in_ok-exit-in-While.ensures.same)
 
 pub walk_form-walk_arms-requires : goal.walk_form-walk_arms-requires
 walk_form-walk_arms-requires t c =
@@ -336,19 +336,19 @@ walk_form-returns-in_err-way-in-Switch-clause-refused t c =
     let never = rw c.as_slice-in-Switch-2.ensures at c.walk_arms.ensures.refused in
     rw (switch_form _ _ _ _ c.in-Switch.is) (handed _ _ _ c.from_residual-in_err-way-in-Switch.ensures.1 c.in_err-way-in-Switch.was (switch_arms_none c.args.l c.args.n (rows_view c.in-Switch.rows) (arms_view c.in-Switch.arms) c.in-Switch.end (map_of c.args.held) _ c.args.kept.now p) never)
 
-pub walk_form-behind-requires : goal.walk_form-behind-requires
-walk_form-behind-requires t c =
+pub walk_form-following-requires : goal.walk_form-following-requires
+walk_form-following-requires t c =
     let room = rw (switch_form _ _ _ _ c.in-Switch.is) at c.requires.room in
     let arms = rw c.as_slice-in-Switch-2.ensures at c.in_ok-way-in-Switch.ensures.ok in
     let passes = rw c.as_slice-in-Switch-2.ensures at c.in_ok-way-in-Switch.ensures.passes in
-    record { within = omega (arith, room.fits, room.long, arms.frame.long_behind); some = λ e. arms.there (sym passes ∙ e) }
+    record { within = omega (arith, room.fits, room.long, arms.frame.long_after); some = λ e. arms.there (sym passes ∙ e) }
 
 pub walk_form-returns-in_ok-way-in-Switch-clause-ok : goal.walk_form-returns-in_ok-way-in-Switch-clause-ok
 walk_form-returns-in_ok-way-in-Switch-clause-ok t c =
     let p = rw c.as_slice-in-Switch.ensures at c.in_ok-inside-in-Switch.ensures.ok in
     let arms = rw c.as_slice-in-Switch-2.ensures at c.in_ok-way-in-Switch.ensures.ok in
     let passes = rw c.as_slice-in-Switch-2.ensures at c.in_ok-way-in-Switch.ensures.passes in
-    let place = rw passes at c.behind.ensures.place in
+    let place = rw passes at c.following.ensures.place in
     rw (switch_form _ _ _ _ c.in-Switch.is) (IfOk-weaker {Y = Halt} _ _ _ (λ r q. switch_walked _ _ _ _ c.in-Switch.end _ _ _ _ _ p arms q) place)
 
 pub walk_form-walk_block-requires : goal.walk_form-walk_block-requires

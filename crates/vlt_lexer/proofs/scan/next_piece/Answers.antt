@@ -17,8 +17,8 @@ returns-then-is_blank-clause-found c =
 
 pub returns-in-Some-past_name_from-clause-found : goal.returns-in-Some-past_name_from-clause-found
 returns-in-Some-past_name_from-clause-found c =
-    let behind : past_name (chars c.args.text.now) ≡ Some (chars c.in-Some-past_name_from.rest.now) = first_of (search rules, grind (arith, common_steps)) in
-    let found = name_stands (chars c.args.text.now) (chars c.in-Some-past_name_from.rest.now) behind in
+    let following : past_name (chars c.args.text.now) ≡ Some (chars c.in-Some-past_name_from.rest.now) = first_of (search rules, grind (arith, common_steps)) in
+    let found = name_stands (chars c.args.text.now) (chars c.in-Some-past_name_from.rest.now) following in
     let utf8 : IsUtf8 c.in-Some-past_name_from.rest.now = first_of (search rules, grind (arith, common_steps)) in
     let bytes = front_bytes c.args.text.now c.in-Some-past_name_from.rest.now found.0 c.utf8.text utf8 found.1 in
     let count = length c.args.text.now - length c.in-Some-past_name_from.rest.now in
@@ -27,8 +27,8 @@ returns-in-Some-past_name_from-clause-found c =
 
 pub returns-in-Some-past_name-clause-found : goal.returns-in-Some-past_name-clause-found
 returns-in-Some-past_name-clause-found c =
-    let behind : past_name (chars c.in-Some.after.now) ≡ Some (chars c.in-Some-past_name.rest.now) = first_of (search rules, grind (arith, common_steps)) in
-    tick_stands (chars c.args.text.now) c.in-Some.c (chars c.in-Some.after.now) (chars c.in-Some-past_name.rest.now) c.in-Some.ensures.split.0 c.if-c-eq39.true behind
+    let following : past_name (chars c.in-Some.after.now) ≡ Some (chars c.in-Some-past_name.rest.now) = first_of (search rules, grind (arith, common_steps)) in
+    tick_stands (chars c.args.text.now) c.in-Some.c (chars c.in-Some.after.now) (chars c.in-Some-past_name.rest.now) c.in-Some.ensures.split.0 c.if-c-eq39.true following
 
 pub returns-in-Some-sign-clause-found : goal.returns-in-Some-sign-clause-found
 returns-in-Some-sign-clause-found c =

@@ -15,8 +15,8 @@ at_is c =
 pub returns-in-Some-clause-before : goal.returns-in-Some-clause-before
 returns-in-Some-clause-before c = ap (λ at. take at c.args.text.now) (at_is c)
 
-pub returns-in-Some-clause-behind : goal.returns-in-Some-clause-behind
-returns-in-Some-clause-behind c = take_rest c.args.text.now (c.in-Some.at + 1) ∙ ap (λ at. drop (at + 1) c.args.text.now) (at_is c)
+pub returns-in-Some-clause-following : goal.returns-in-Some-clause-following
+returns-in-Some-clause-following c = take_rest c.args.text.now (c.in-Some.at + 1) ∙ ap (λ at. drop (at + 1) c.args.text.now) (at_is c)
 
 none_in : (c : goal.After-result-in-None-2-1) → length c.args.text.now ≤ position_or_len (is_one_of c.args.separators.now) c.args.text.now
 none_in c =
@@ -26,5 +26,5 @@ none_in c =
 pub returns-in-None-clause-before : goal.returns-in-None-clause-before
 returns-in-None-clause-before c = sym (take_all _ c.args.text.now (none_in c))
 
-pub returns-in-None-clause-behind : goal.returns-in-None-clause-behind
-returns-in-None-clause-behind c = sym (drop_all (position_or_len (is_one_of c.args.separators.now) c.args.text.now + 1) c.args.text.now (let n = none_in c in omega arith))
+pub returns-in-None-clause-following : goal.returns-in-None-clause-following
+returns-in-None-clause-following c = sym (drop_all (position_or_len (is_one_of c.args.separators.now) c.args.text.now + 1) c.args.text.now (let n = none_in c in omega arith))

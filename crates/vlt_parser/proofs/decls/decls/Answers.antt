@@ -27,8 +27,8 @@ loop-here-preserved c =
     let one_longer : length all ≡ n + 1 = rw pushed (length-append c.loop-here.decls (c.in_ok-next.next ∷ [])) in
     let few : length all ≤ language.decls = still_few all c.loop-here.decls c.in_ok-next.next c.len.result c.bound.result.count language.decls pushed c.len.ensures c.in_ok-allow_one_more.ensures.within c.bound.ensures.count in
     record {
-      spelled = one_more decl_of decl_then all c.loop-here.decls c.in_ok-next.next (tokens_of c.args.tokens.now) (start c.loop-here.here) (start c.in_ok-next.behind) pushed before.spelled c.in_ok-next.ensures.spelled;
-      stands = one_more_stands decl_of decl_at c.args.tokens.now all c.loop-here.decls c.in_ok-next.next 0 c.loop-here.here c.in_ok-next.behind pushed before.stands c.in_ok-next.ensures.placed;
+      spelled = one_more decl_of decl_then all c.loop-here.decls c.in_ok-next.next (tokens_of c.args.tokens.now) (start c.loop-here.here) (start c.in_ok-next.following) pushed before.spelled c.in_ok-next.ensures.spelled;
+      stands = one_more_stands decl_of decl_at c.args.tokens.now all c.loop-here.decls c.in_ok-next.next 0 c.loop-here.here c.in_ok-next.following pushed before.stands c.in_ok-next.ensures.placed;
       right = each_more decl_of (IsDecl language) all c.loop-here.decls c.in_ok-next.next pushed before.right c.in_ok-next.ensures.right;
       few = few;
       within = c.in_ok-next.ensures.moves.within;

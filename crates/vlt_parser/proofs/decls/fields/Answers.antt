@@ -22,12 +22,12 @@ loop-alloc-preserved c =
     let pushed : all ≡ c.loop-alloc.fields ++ c.in_ok-next.next ∷ [] = c.in_ok-push.ensures.ok in
     let one_longer : length all ≡ length c.loop-alloc.fields + 1 = rw pushed (length-append c.loop-alloc.fields (c.in_ok-next.next ∷ [])) in
     let few : length all ≤ language.fields = still_few all c.loop-alloc.fields c.in_ok-next.next c.len.result c.bound.result.count language.fields pushed c.len.ensures c.in_ok-allow_one_more.ensures.within c.bound.ensures.count in
-    let read : (s : List Symbol) → run (m.fields (fields_left (length c.loop-alloc.fields)) ∷ s) (lexemes_from c.args.tokens.now c.loop-alloc.here) ≡ run (m.fields (fields_left (length all)) ∷ s) (lexemes_from c.args.tokens.now c.in_ok-next.behind) = λ s.
+    let read : (s : List Symbol) → run (m.fields (fields_left (length c.loop-alloc.fields)) ∷ s) (lexemes_from c.args.tokens.now c.loop-alloc.here) ≡ run (m.fields (fields_left (length all)) ∷ s) (lexemes_from c.args.tokens.now c.in_ok-next.following) = λ s.
     fields_one (length c.loop-alloc.fields) (length all) s (lexemes_from c.args.tokens.now c.loop-alloc.here) (ty_can (lexemes_from c.args.tokens.now c.loop-alloc.here) (sym c.loop-alloc-test.ensures)) one_longer few
     ∙ c.in_ok-next.ensures.takes (m.fields (fields_left (length all)) ∷ s) in
     record {
-      spelled = one_more field_of field_then all c.loop-alloc.fields c.in_ok-next.next (start c.args.at) (start c.loop-alloc.here) (start c.in_ok-next.behind) pushed before.spelled c.in_ok-next.ensures.spelled;
-      stands = one_more_stands field_of field_at c.args.tokens.now all c.loop-alloc.fields c.in_ok-next.next c.args.at c.loop-alloc.here c.in_ok-next.behind pushed before.stands c.in_ok-next.ensures.placed;
+      spelled = one_more field_of field_then all c.loop-alloc.fields c.in_ok-next.next (start c.args.at) (start c.loop-alloc.here) (start c.in_ok-next.following) pushed before.spelled c.in_ok-next.ensures.spelled;
+      stands = one_more_stands field_of field_at c.args.tokens.now all c.loop-alloc.fields c.in_ok-next.next c.args.at c.loop-alloc.here c.in_ok-next.following pushed before.stands c.in_ok-next.ensures.placed;
       right = each_more field_of IsField all c.loop-alloc.fields c.in_ok-next.next pushed before.right c.in_ok-next.ensures.right;
       few = few;
       later = omega (arith, before.later, c.in_ok-next.ensures.moves.later);

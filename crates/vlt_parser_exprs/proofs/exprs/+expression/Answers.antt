@@ -28,7 +28,7 @@ expression-loop-next-preserved t c =
     let inside = c.in_ok-inside.inside in
     let here = lexemes_from tokens c.loop-next.here in
     let right = lexemes_from tokens (c.loop-next.here + 1) in
-    let behind = lexemes_from tokens c.in_ok-second.behind in
+    let following = lexemes_from tokens c.in_ok-second.following in
     let deeper : suc (max first second) ≡ c.max-depth.result + 1 = first_of (search rules, grind (arith, common_steps)) in
     let seen : expr_of c.in_ok-expr.expr ≡ s.binary op (expr_of c.loop-next.first.expr) (expr_of c.in_ok-second.second.expr) c.span-both.result = c.in_ok-expr.ensures.made in
     record {
@@ -47,8 +47,8 @@ expression-loop-next-preserved t c =
           ∙ operator_goes_on op first c.args.least c.args.room inside fs rest here right c.in-Some.ensures.binds.0 c.in_ok-inside.ensures.room c.in_ok-inside.ensures.fits c.in-Some.ensures.begins
           ∙ ap (λ l. run (m.operand inside (m.level_from (l + 1) inside ∷ outer) ∷ rest) right) (sym c.in-Some.ensures.level)
           ∙ c.in_ok-second.ensures.takes outer rest
-          ∙ right_ended (c.in-Some.next.level + 1) inside first second c.args.least c.args.room fs rest behind c.in_ok-second.ensures.stops
-          ∙ ap (λ d. run (m.operations d (m.level_from c.args.least c.args.room ∷ fs) ∷ rest) behind) deeper;
+          ∙ right_ended (c.in-Some.next.level + 1) inside first second c.args.least c.args.room fs rest following c.in_ok-second.ensures.stops
+          ∙ ap (λ d. run (m.operations d (m.level_from c.args.least c.args.room ∷ fs) ∷ rest) following) deeper;
     }
 
 pub group-returns-in_err-next-clause-takes : goal.group-returns-in_err-next-clause-takes

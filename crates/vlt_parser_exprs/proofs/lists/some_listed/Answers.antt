@@ -28,14 +28,14 @@ loop-items-preserved g c =
     let grown : map view all ≡ map view c.loop-items.items ++ view item ∷ [] = pushed view all c.loop-items.items item c.in_ok-push.ensures.ok in
     let one_longer : length all ≡ length c.loop-items.items + 1 = rw c.in_ok-push.ensures.ok (length-append c.loop-items.items (item ∷ [])) in
     record {
-      spelled = goes_on g.T.Part.spell c.args.closing (start c.args.at) (map view all) (map view c.loop-items.items) (start c.loop-items.here) (start c.in_ok-item.behind) (start c.in_ok-next.next) (view item)
+      spelled = goes_on g.T.Part.spell c.args.closing (start c.args.at) (map view all) (map view c.loop-items.items) (start c.loop-items.here) (start c.in_ok-item.following) (start c.in_ok-next.next) (view item)
           grown before.spelled c.in_ok-item.ensures.spelled c.in_ok-next.ensures.spelled;
-      stands = stands_on g.T.Part.places c.args.tokens.now c.args.at c.loop-items.here c.in_ok-item.behind c.in_ok-next.next (map view all) (map view c.loop-items.items) (view item) grown before.stands c.in_ok-item.ensures.placed c.in_ok-next.ensures.one;
+      stands = stands_on g.T.Part.places c.args.tokens.now c.args.at c.loop-items.here c.in_ok-item.following c.in_ok-next.next (map view all) (map view c.loop-items.items) (view item) grown before.stands c.in_ok-item.ensures.placed c.in_ok-next.ensures.one;
       right = each-pushed g.T.Part.right (map view all) (map view c.loop-items.items) (view item) grown before.right c.in_ok-item.ensures.right;
       few = subst (λ n. IsWithin c.args.most (n + 1)) c.len.ensures c.in_ok-allow_one_more.ensures.within;
       later = omega (arith, before.later, c.in_ok-item.ensures.moves.later, c.in_ok-next.ensures.moves.later);
       place = λ s. before.place s ∙ c.in_ok-item.ensures.takes (m.further g.T.Part.thing c.args.closing (left_of c.args.most (length c.loop-items.items + 1)) ∷ s)
-          ∙ further_one g.T.Part.thing c.args.closing c.args.most (length c.loop-items.items + 1) (length all + 1) s (lexemes_from c.args.tokens.now c.in_ok-item.behind) (lexemes_from c.args.tokens.now c.in_ok-next.next)
+          ∙ further_one g.T.Part.thing c.args.closing c.args.most (length c.loop-items.items + 1) (length all + 1) s (lexemes_from c.args.tokens.now c.in_ok-item.following) (lexemes_from c.args.tokens.now c.in_ok-next.next)
           c.in_default.ensures.lacks c.in_ok-next.ensures.ahead (ap (λ n. n + 1) one_longer) (subst (λ n. IsWithin c.args.most (n + 1)) c.len.ensures c.in_ok-allow_one_more.ensures.within);
     }
 
@@ -45,7 +45,7 @@ returns-in-Some-clause-spelled g c =
     let view = g.T.Part.view in
     let item = c.in_ok-item.item in
     let all = c.push.new.self in
-    closed g.T.Part.spell c.args.closing (start c.args.at) (map view all) (map view c.loop-items.items) (start c.loop-items.here) (start c.in_ok-item.behind) (start c.in-Some.end) (view item)
+    closed g.T.Part.spell c.args.closing (start c.args.at) (map view all) (map view c.loop-items.items) (start c.loop-items.here) (start c.in_ok-item.following) (start c.in-Some.end) (view item)
     (pushed view all c.loop-items.items item c.in_ok-push.ensures.ok) c.loop-items.invariant.spelled c.in_ok-item.ensures.spelled c.in-Some.ensures.spelled
 
 pub returns-in-Some-clause-some : goal.returns-in-Some-clause-some
@@ -68,5 +68,5 @@ returns-in-Some-clause-placed g c =
     let view = g.T.Part.view in
     let item = c.in_ok-item.item in
     let all = c.push.new.self in
-    stands_whole g.T.Part.places c.args.tokens.now c.args.at c.loop-items.here c.in_ok-item.behind c.in-Some.end (map view all) (map view c.loop-items.items) (view item)
+    stands_whole g.T.Part.places c.args.tokens.now c.args.at c.loop-items.here c.in_ok-item.following c.in-Some.end (map view all) (map view c.loop-items.items) (view item)
     (pushed view all c.loop-items.items item c.in_ok-push.ensures.ok) c.loop-items.invariant.stands c.in_ok-item.ensures.placed c.in-Some.ensures.one

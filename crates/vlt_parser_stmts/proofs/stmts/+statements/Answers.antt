@@ -30,27 +30,27 @@ block-loop-end-preserved t c =
     let next = stmt_of c.in_ok-next.next in
     let grown : map stmt_of c.push.new.self ≡ stmts ++ next ∷ [] = pushed stmt_of c.push.new.self c.loop-end.stmts c.in_ok-next.next c.in_ok-push.ensures.ok in
     record {
-      spelled = before.spelled ∙ ap (stmts_then (stmts_made stmts)) c.in_ok-next.ensures.spelled ∙ sym (stmts_then-append stmts next (start c.in_ok-next.behind)) ∙ ap (λ xs. stmts_then (stmts_made xs) (start c.in_ok-next.behind)) (sym grown);
-      stands = subst (λ xs. Stands stmts_at c.args.tokens.now c.in_ok-inside.inside (stmts_made xs) c.in_ok-next.behind) (sym grown) (stmts_append c.args.tokens.now stmts next c.in_ok-inside.inside c.loop-end.here c.in_ok-next.behind before.stands c.in_ok-next.ensures.placed);
+      spelled = before.spelled ∙ ap (stmts_then (stmts_made stmts)) c.in_ok-next.ensures.spelled ∙ sym (stmts_then-append stmts next (start c.in_ok-next.following)) ∙ ap (λ xs. stmts_then (stmts_made xs) (start c.in_ok-next.following)) (sym grown);
+      stands = subst (λ xs. Stands stmts_at c.args.tokens.now c.in_ok-inside.inside (stmts_made xs) c.in_ok-next.following) (sym grown) (stmts_append c.args.tokens.now stmts next c.in_ok-inside.inside c.loop-end.here c.in_ok-next.following before.stands c.in_ok-next.ensures.placed);
       right = rw grown (are_stmts-append (c.args.room - 1) stmts next before.right c.in_ok-next.ensures.right);
       later = omega (arith, before.later, c.in_ok-next.ensures.moves.later);
       place = λ s. before.place s ∙ stmts_one (c.args.room - 1) s (lexemes_from c.args.tokens.now c.loop-end.here) c.in_default.ensures.lacks ∙ c.in_ok-next.ensures.takes (m.stmts (c.args.room - 1) ∷ s);
     }
 
 -- one more arm was read
-arm_read : (all arms : List Arm) (next : Arm) (start here behind : List Token) → all ≡ arms ++ next ∷ []
-    → start ≡ arms_then (arms_of arms) here → here ≡ arms_then (arms_made (arm_of next ∷ [])) behind → start ≡ arms_then (arms_of all) behind
-arm_read all arms next start here behind grown before is_next =
-    before ∙ ap (arms_then (arms_of arms)) is_next ∙ sym (arms_then-append (map arm_of arms) (arm_of next) behind)
-    ∙ ap (λ xs. arms_then (arms_made xs) behind) (sym (pushed arm_of all arms next grown))
+arm_read : (all arms : List Arm) (next : Arm) (start here following : List Token) → all ≡ arms ++ next ∷ []
+    → start ≡ arms_then (arms_of arms) here → here ≡ arms_then (arms_made (arm_of next ∷ [])) following → start ≡ arms_then (arms_of all) following
+arm_read all arms next start here following grown before is_next =
+    before ∙ ap (arms_then (arms_of arms)) is_next ∙ sym (arms_then-append (map arm_of arms) (arm_of next) following)
+    ∙ ap (λ xs. arms_then (arms_made xs) following) (sym (pushed arm_of all arms next grown))
 
 arms_right : (room : ℕ) (all arms : List Arm) (next : Arm) → all ≡ arms ++ next ∷ [] → AreArms language room (arms_of arms) → AreArms language room (arms_made (arm_of next ∷ [])) → AreArms language room (arms_of all)
 arms_right room all arms next grown before is = rw (pushed arm_of all arms next grown) (are_arms-append room (map arm_of arms) (arm_of next) before is)
 
-arms_stand : (tokens : List CodeToken) (all arms : List Arm) (next : Arm) (at here behind : ℕ) → all ≡ arms ++ next ∷ [] → Stands arms_at tokens at (arms_of arms) here → Stands arms_at tokens here (arms_made (arm_of next ∷ [])) behind
-    → Stands arms_at tokens at (arms_of all) behind
-arms_stand tokens all arms next at here behind grown before is_next =
-    subst (λ xs. Stands arms_at tokens at (arms_made xs) behind) (sym (pushed arm_of all arms next grown)) (arms_append tokens (map arm_of arms) (arm_of next) at here behind before is_next)
+arms_stand : (tokens : List CodeToken) (all arms : List Arm) (next : Arm) (at here following : ℕ) → all ≡ arms ++ next ∷ [] → Stands arms_at tokens at (arms_of arms) here → Stands arms_at tokens here (arms_made (arm_of next ∷ [])) following
+    → Stands arms_at tokens at (arms_of all) following
+arms_stand tokens all arms next at here following grown before is_next =
+    subst (λ xs. Stands arms_at tokens at (arms_made xs) following) (sym (pushed arm_of all arms next grown)) (arms_append tokens (map arm_of arms) (arm_of next) at here following before is_next)
 
 pub arms-loop-arms-preserved : goal.arms-loop-arms-preserved
 arms-loop-arms-preserved t c =
@@ -58,22 +58,22 @@ arms-loop-arms-preserved t c =
     let before = c.loop-arms.invariant in
     let next = c.in_ok-next.next in
     record {
-      spelled = arm_read c.push.new.self c.loop-arms.arms next (start c.args.at) (start c.loop-arms.here) (start c.in_ok-next.behind) c.in_ok-push.ensures.ok before.spelled c.in_ok-next.ensures.spelled;
-      stands = arms_stand c.args.tokens.now c.push.new.self c.loop-arms.arms next c.args.at c.loop-arms.here c.in_ok-next.behind c.in_ok-push.ensures.ok before.stands c.in_ok-next.ensures.placed;
+      spelled = arm_read c.push.new.self c.loop-arms.arms next (start c.args.at) (start c.loop-arms.here) (start c.in_ok-next.following) c.in_ok-push.ensures.ok before.spelled c.in_ok-next.ensures.spelled;
+      stands = arms_stand c.args.tokens.now c.push.new.self c.loop-arms.arms next c.args.at c.loop-arms.here c.in_ok-next.following c.in_ok-push.ensures.ok before.stands c.in_ok-next.ensures.placed;
       right = arms_right c.args.room c.push.new.self c.loop-arms.arms next c.in_ok-push.ensures.ok before.right c.in_ok-next.ensures.right;
       later = omega (arith, before.later, c.in_ok-next.ensures.moves.later);
-      place = λ s. before.place s ∙ c.in_ok-next.ensures.takes (m.arms c.args.room ∷ s) ∙ arms_one c.args.room s (lexemes_from c.args.tokens.now c.in_ok-next.behind) c.in_default.ensures.lacks;
+      place = λ s. before.place s ∙ c.in_ok-next.ensures.takes (m.arms c.args.room ∷ s) ∙ arms_one c.args.room s (lexemes_from c.args.tokens.now c.in_ok-next.following) c.in_default.ensures.lacks;
     }
 
 pub arms-returns-in-Some-clause-spelled : goal.arms-returns-in-Some-clause-spelled
 arms-returns-in-Some-clause-spelled t c =
     let start = tokens_from c.args.tokens.now in
-    arm_read c.push.new.self c.loop-arms.arms c.in_ok-next.next (start c.args.at) (start c.loop-arms.here) (start c.in_ok-next.behind) c.in_ok-push.ensures.ok c.loop-arms.invariant.spelled c.in_ok-next.ensures.spelled
+    arm_read c.push.new.self c.loop-arms.arms c.in_ok-next.next (start c.args.at) (start c.loop-arms.here) (start c.in_ok-next.following) c.in_ok-push.ensures.ok c.loop-arms.invariant.spelled c.in_ok-next.ensures.spelled
     ∙ ap (arms_then (arms_of c.push.new.self)) c.in-Some.ensures.spelled
 
 pub arms-returns-in-Some-clause-placed : goal.arms-returns-in-Some-clause-placed
 arms-returns-in-Some-clause-placed t c =
-    let stand = arms_stand c.args.tokens.now c.push.new.self c.loop-arms.arms c.in_ok-next.next c.args.at c.loop-arms.here c.in_ok-next.behind c.in_ok-push.ensures.ok c.loop-arms.invariant.stands c.in_ok-next.ensures.placed in
+    let stand = arms_stand c.args.tokens.now c.push.new.self c.loop-arms.arms c.in_ok-next.next c.args.at c.loop-arms.here c.in_ok-next.following c.in_ok-push.ensures.ok c.loop-arms.invariant.stands c.in_ok-next.ensures.placed in
     ap (λ r. (r.0, r.1 + 1)) stand ∙ ap (λ n. (arms_of c.push.new.self, n)) (sym c.in-Some.ensures.one)
 
 pub arms-returns-in-Some-clause-some : goal.arms-returns-in-Some-clause-some
@@ -114,12 +114,12 @@ pub otherwise-returns-in_err-choice-clause-takes : goal.otherwise-returns-in_err
 otherwise-returns-in_err-choice-clause-takes t c =
     let places = lexemes_from c.args.tokens.now in
     let next = places c.in-Ok.next in
-    let behind = places (c.in-Ok.next + 1) in
+    let following = places (c.in-Ok.next + 1) in
     let is : c.from_residual.result ≡ Err c.in_err-choice.field-0.0 = first_of (search rules, grind (arith, common_steps)) in
-    let chosen : BeginsWith (kind.Keyword word.If) next behind = subst (λ k. BeginsWith k next behind) (c.in-Some-Keyword-If.field-0-is ∙ ap kind.Keyword c.in-Some-Keyword-If.field-0-0-is) c.in-Some-Keyword-If.ensures.ahead in
+    let chosen : BeginsWith (kind.Keyword word.If) next following = subst (λ k. BeginsWith k next following) (c.in-Some-Keyword-If.field-0-is ∙ ap kind.Keyword c.in-Some-Keyword-If.field-0-0-is) c.in-Some-Keyword-If.ensures.ahead in
     rw is (λ s f told.
     otherwise_some c.args.room s (places c.args.at) next c.in-Ok.ensures.ahead
-    ∙ else_if c.args.room s next behind chosen.begins
+    ∙ else_if c.args.room s next following chosen.begins
     ∙ c.in_err-choice.ensures.takes s f told)
 
 pub otherwise-returns-in_err-last-clause-takes : goal.otherwise-returns-in_err-last-clause-takes
@@ -127,16 +127,16 @@ otherwise-returns-in_err-last-clause-takes t c =
     let places = lexemes_from c.args.tokens.now in
     let next = places c.in-Ok.next in
     let is : c.from_residual-in_err-last.result ≡ Err c.in_err-last.field-0.0 = first_of (search rules, grind (arith, common_steps)) in
-    let same : (s : List Symbol) → run (m.behind_else c.args.room ∷ s) next ≡ run (m.block c.args.room ∷ s) next = first_of (search (rules, else_block), grind (arith, common_steps)) in
+    let same : (s : List Symbol) → run (m.following_else c.args.room ∷ s) next ≡ run (m.block c.args.room ∷ s) next = first_of (search (rules, else_block), grind (arith, common_steps)) in
     rw is (λ s f told. otherwise_some c.args.room s (places c.args.at) next c.in-Ok.ensures.ahead ∙ same s ∙ c.in_err-last.ensures.takes s f told)
 
 pub stmt-returns-in_err-body-in-Some-Sign-OpenBrace-clause-takes : goal.stmt-returns-in_err-body-in-Some-Sign-OpenBrace-clause-takes
 stmt-returns-in_err-body-in-Some-Sign-OpenBrace-clause-takes t c =
     let here = lexemes_from c.args.tokens.now c.args.at in
-    let behind = lexemes_from c.args.tokens.now (c.args.at + 1) in
+    let following = lexemes_from c.args.tokens.now (c.args.at + 1) in
     let is : c.from_residual-in_err-body-in-Some-Sign-OpenBrace.result ≡ Err c.in_err-body-in-Some-Sign-OpenBrace.field-0.0 = first_of (search rules, grind (arith, common_steps)) in
-    let opens : BeginsWith (kind.Sign mark.OpenBrace) here behind = subst (λ k. BeginsWith k here behind) (c.in-Some-Sign-OpenBrace.field-0-is ∙ ap kind.Sign c.in-Some-Sign-OpenBrace.field-0-0-is) c.in-Some-Sign-OpenBrace.ensures.ahead in
-    rw is (λ s f told. stmt_block c.args.room s here behind c.in_ok-enter-in-Some-Sign-OpenBrace.ensures.some opens.begins ∙ c.in_err-body-in-Some-Sign-OpenBrace.ensures.takes s f told)
+    let opens : BeginsWith (kind.Sign mark.OpenBrace) here following = subst (λ k. BeginsWith k here following) (c.in-Some-Sign-OpenBrace.field-0-is ∙ ap kind.Sign c.in-Some-Sign-OpenBrace.field-0-0-is) c.in-Some-Sign-OpenBrace.ensures.ahead in
+    rw is (λ s f told. stmt_block c.args.room s here following c.in_ok-enter-in-Some-Sign-OpenBrace.ensures.some opens.begins ∙ c.in_err-body-in-Some-Sign-OpenBrace.ensures.takes s f told)
 
 pub switch-returns-in_err-variable-clause-takes : goal.switch-returns-in_err-variable-clause-takes
 switch-returns-in_err-variable-clause-takes t c =

@@ -26,15 +26,15 @@ go_form-returns-in-Jump t c ts l = rw (jump_form _ _ c.in-Jump.is) (c.go_jump.en
 
 pub go_form-returns-in-None : goal.go_form-returns-in-None
 go_form-returns-in-None t c ts l = rw (if_form _ _ _ _ c.in-If.is)
-    (neither_goes c.args.hunt c.args.at _ c.args.point c.past_expr-behind.result c.past_expr-behind.ensures _ _ (λ r e. c.choose.ensures.none c.in-None.is then_arm r e) (λ r e. c.choose.ensures.none c.in-None.is else_arm r e))
+    (neither_goes c.args.hunt c.args.at _ c.args.point c.past_expr-following.result c.past_expr-following.ensures _ _ (λ r e. c.choose.ensures.none c.in-None.is then_arm r e) (λ r e. c.choose.ensures.none c.in-None.is else_arm r e))
 
 pub go_form-returns-in-Then : goal.go_form-returns-in-Then
 go_form-returns-in-Then t c ts l = rw (if_form _ _ _ _ c.in-If.is)
-    (then_goes c.args.hunt c.args.at _ c.args.point c.past_expr-behind.result c.past_expr-behind.ensures c.in-Some.chosen (made_choice c.args.at c.past_expr-behind.result c.choose.result c.in-Some.chosen c.in-Some.is c.choose.ensures.comes c.choose.ensures.met c.choose.ensures.some) _ _ c.go_block.result c.in-Then.is (c.go_block.ensures ts l))
+    (then_goes c.args.hunt c.args.at _ c.args.point c.past_expr-following.result c.past_expr-following.ensures c.in-Some.chosen (made_choice c.args.at c.past_expr-following.result c.choose.result c.in-Some.chosen c.in-Some.is c.choose.ensures.comes c.choose.ensures.met c.choose.ensures.some) _ _ c.go_block.result c.in-Then.is (c.go_block.ensures ts l))
 
 pub go_form-returns-in-Else : goal.go_form-returns-in-Else
 go_form-returns-in-Else t c ts l = rw (if_form _ _ _ _ c.in-If.is)
-    (else_goes c.args.hunt c.args.at _ c.args.point c.past_expr-behind.result c.past_expr-behind.ensures c.in-Some.chosen (made_choice c.args.at c.past_expr-behind.result c.choose.result c.in-Some.chosen c.in-Some.is c.choose.ensures.comes c.choose.ensures.met c.choose.ensures.some) _ _ c.go_block-in-Else.result c.in-Else.is (c.go_block-in-Else.ensures ts l))
+    (else_goes c.args.hunt c.args.at _ c.args.point c.past_expr-following.result c.past_expr-following.ensures c.in-Some.chosen (made_choice c.args.at c.past_expr-following.result c.choose.result c.in-Some.chosen c.in-Some.is c.choose.ensures.comes c.choose.ensures.met c.choose.ensures.some) _ _ c.go_block-in-Else.result c.in-Else.is (c.go_block-in-Else.ensures ts l))
 
 pub go_form-returns-in_default : goal.go_form-returns-in_default
 go_form-returns-in_default t c ts l = c.go_step.ensures ts
@@ -64,38 +64,38 @@ go_stmts-returns t c ts l = listing_ends (program_of c.args.p.now) (instance (pr
 
 pub go_stmts-returns-in_default : goal.go_stmts-returns-in_default
 go_stmts-returns-in_default t c ts l =
-    listing_left (program_of c.args.p.now) (instance (program_of c.args.p.now) (func_of c.args.f.now) c.args.hunt.origin) c.args.hunt c.args.left c.args.stmts.now c.args.point c.loop-s.s-index c.loop-s.here c.s-item.result c.go_form-behind.result c.loop-s-test.true c.s-item.is c.loop-s.invariant
-    c.go_form-behind.ensures c.in_default.not-Next ts l
+    listing_left (program_of c.args.p.now) (instance (program_of c.args.p.now) (func_of c.args.f.now) c.args.hunt.origin) c.args.hunt c.args.left c.args.stmts.now c.args.point c.loop-s.s-index c.loop-s.here c.s-item.result c.go_form-following.result c.loop-s-test.true c.s-item.is c.loop-s.invariant
+    c.go_form-following.ensures c.in_default.not-Next ts l
 
 pub go_stmts-loop-s-preserved : goal.go_stmts-loop-s-preserved
 go_stmts-loop-s-preserved t c =
-    listing_more (program_of c.args.p.now) (instance (program_of c.args.p.now) (func_of c.args.f.now) c.args.hunt.origin) c.args.hunt c.args.left c.args.stmts.now c.args.point c.loop-s.s-index c.loop-s.here c.s-item.result c.go_form-behind.result c.loop-s-test.true c.s-item.is c.loop-s.invariant
-    c.go_form-behind.ensures c.in-Next.is
+    listing_more (program_of c.args.p.now) (instance (program_of c.args.p.now) (func_of c.args.f.now) c.args.hunt.origin) c.args.hunt c.args.left c.args.stmts.now c.args.point c.loop-s.s-index c.loop-s.here c.s-item.result c.go_form-following.result c.loop-s-test.true c.s-item.is c.loop-s.invariant
+    c.go_form-following.ensures c.in-Next.is
 
 pub go_switch-returns-in-None-arm_at : goal.go_switch-returns-in-None-arm_at
 go_switch-returns-in-None-arm_at t c end ts l =
-    no_case_goes (program_of c.args.p.now) (instance (program_of c.args.p.now) (func_of c.args.f.now) c.args.hunt.origin) c.args.hunt c.args.at _ c.args.point c.past_switch-behind.result c.past_switch-behind.ensures c.in-Some.chosen
-    (made_choice c.args.at c.past_switch-behind.result c.choose.result c.in-Some.chosen c.in-Some.is c.choose.ensures.comes c.choose.ensures.met c.choose.ensures.some)
+    no_case_goes (program_of c.args.p.now) (instance (program_of c.args.p.now) (func_of c.args.f.now) c.args.hunt.origin) c.args.hunt c.args.at _ c.args.point c.past_switch-following.result c.past_switch-following.ensures c.in-Some.chosen
+    (made_choice c.args.at c.past_switch-following.result c.choose.result c.in-Some.chosen c.in-Some.is c.choose.ensures.comes c.choose.ensures.met c.choose.ensures.some)
     c.in-Case.position c.in-Case.is ts c.args.v.0 c.args.arms.now end (sym (rw c.in-None-arm_at.is at c.arm_at.ensures))
 
 pub go_switch-returns-in-Some-arm_at : goal.go_switch-returns-in-Some-arm_at
 go_switch-returns-in-Some-arm_at t c end ts l =
-    case_goes c.args.hunt c.args.at _ c.args.point c.past_switch-behind.result c.past_switch-behind.ensures c.in-Some.chosen
-    (made_choice c.args.at c.past_switch-behind.result c.choose.result c.in-Some.chosen c.in-Some.is c.choose.ensures.comes c.choose.ensures.met c.choose.ensures.some)
+    case_goes c.args.hunt c.args.at _ c.args.point c.past_switch-following.result c.past_switch-following.ensures c.in-Some.chosen
+    (made_choice c.args.at c.past_switch-following.result c.choose.result c.in-Some.chosen c.in-Some.is c.choose.ensures.comes c.choose.ensures.met c.choose.ensures.some)
     _ end c.in-Case.position c.go_block.result c.in-Case.is
     (arm_goes (program_of c.args.p.now) (instance (program_of c.args.p.now) (func_of c.args.f.now) c.args.hunt.origin) c.args.hunt c.args.at ts c.args.v.0 c.args.arms.now c.in-Case.position c.in-Some-arm_at.arm.now c.in-Some.chosen.point c.past_arm-inside.result c.go_block.result c.as_slice.result.now
     (sym (rw c.in-Some-arm_at.is at c.arm_at.ensures)) c.as_slice.ensures c.past_arm-inside.ensures (c.go_block.ensures ts l))
 
 pub go_turn-returns-in-Exit-clause-along : goal.go_turn-returns-in-Exit-clause-along
-go_turn-returns-in-Exit-clause-along t c = exit_goes c.args.hunt c.args.at _ c.args.point c.past_expr-behind.result c.past_expr-behind.ensures c.in-Some.chosen (made_choice c.args.at c.past_expr-behind.result c.choose.result c.in-Some.chosen c.in-Some.is c.choose.ensures.comes c.choose.ensures.met c.choose.ensures.some) (flow_of_block (program_of c.args.p.now) (instance (program_of c.args.p.now) (func_of c.args.f.now) c.args.hunt.origin) [] (block_of c.args.body.now)) c.in-Exit.is
+go_turn-returns-in-Exit-clause-along t c = exit_goes c.args.hunt c.args.at _ c.args.point c.past_expr-following.result c.past_expr-following.ensures c.in-Some.chosen (made_choice c.args.at c.past_expr-following.result c.choose.result c.in-Some.chosen c.in-Some.is c.choose.ensures.comes c.choose.ensures.met c.choose.ensures.some) (flow_of_block (program_of c.args.p.now) (instance (program_of c.args.p.now) (func_of c.args.f.now) c.args.hunt.origin) [] (block_of c.args.body.now)) c.in-Exit.is
 
 pub go_turn-returns-in-Turn-clause-along : goal.go_turn-returns-in-Turn-clause-along
 go_turn-returns-in-Turn-clause-along t c =
-    turn_goes c.args.hunt c.args.at _ c.args.point c.past_expr-behind.result c.past_expr-behind.ensures c.in-Some.chosen (made_choice c.args.at c.past_expr-behind.result c.choose.result c.in-Some.chosen c.in-Some.is c.choose.ensures.comes c.choose.ensures.met c.choose.ensures.some) (flow_of_block (program_of c.args.p.now) (instance (program_of c.args.p.now) (func_of c.args.f.now) c.args.hunt.origin) [] (block_of c.args.body.now)) c.go_block.result c.turned.result c.in-Turn.is (c.go_block.ensures [] refl) c.turned.ensures.point c.turned.ensures.out
+    turn_goes c.args.hunt c.args.at _ c.args.point c.past_expr-following.result c.past_expr-following.ensures c.in-Some.chosen (made_choice c.args.at c.past_expr-following.result c.choose.result c.in-Some.chosen c.in-Some.is c.choose.ensures.comes c.choose.ensures.met c.choose.ensures.some) (flow_of_block (program_of c.args.p.now) (instance (program_of c.args.p.now) (func_of c.args.f.now) c.args.hunt.origin) [] (block_of c.args.body.now)) c.go_block.result c.turned.result c.in-Turn.is (c.go_block.ensures [] refl) c.turned.ensures.point c.turned.ensures.out
 
 pub go_turn-returns-in-Turn-clause-fewer : goal.go_turn-returns-in-Turn-clause-fewer
 go_turn-returns-in-Turn-clause-fewer t c e =
-    rw c.turned.ensures.point (turn_fewer c.args.hunt c.args.at _ c.args.point c.past_expr-behind.result c.past_expr-behind.ensures c.in-Some.chosen (made_choice c.args.at c.past_expr-behind.result c.choose.result c.in-Some.chosen c.in-Some.is c.choose.ensures.comes c.choose.ensures.met c.choose.ensures.some) (flow_of_block (program_of c.args.p.now) (instance (program_of c.args.p.now) (func_of c.args.f.now) c.args.hunt.origin) [] (block_of c.args.body.now)) c.go_block.result c.in-Turn.is (c.go_block.ensures [] refl))
+    rw c.turned.ensures.point (turn_fewer c.args.hunt c.args.at _ c.args.point c.past_expr-following.result c.past_expr-following.ensures c.in-Some.chosen (made_choice c.args.at c.past_expr-following.result c.choose.result c.in-Some.chosen c.in-Some.is c.choose.ensures.comes c.choose.ensures.met c.choose.ensures.some) (flow_of_block (program_of c.args.p.now) (instance (program_of c.args.p.now) (func_of c.args.f.now) c.args.hunt.origin) [] (block_of c.args.body.now)) c.go_block.result c.in-Turn.is (c.go_block.ensures [] refl))
 
 pub go_while-loop-head-init : goal.go_while-loop-head-init
 go_while-loop-head-init t c = looping_first (program_of c.args.p.now) (instance (program_of c.args.p.now) (func_of c.args.f.now) c.args.hunt.origin) c.args.hunt (expr_rows (program_of c.args.p.now) (instance (program_of c.args.p.now) (func_of c.args.f.now) c.args.hunt.origin) (expr_of c.args.cond.now)) (flow_of_block (program_of c.args.p.now) (instance (program_of c.args.p.now) (func_of c.args.f.now) c.args.hunt.origin) [] (block_of c.args.body.now)) c.args.at c.args.point

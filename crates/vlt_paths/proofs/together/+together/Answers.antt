@@ -6,7 +6,7 @@ use Rattle.vlt_core.specs.Bodies.{flow_of_block}
 use Rattle.vlt_core.specs.Rows.{expr_rows}
 use Rattle.vlt_core.specs.declared.program.Block.{out-Block}
 use Rattle.vlt_paths.proofs.Choosing.{end_is}
-use Rattle.vlt_paths.proofs.Pairing.{meets_scope, meets_focus, meets_behind_choice, meets_loop, meets_behind_loop, meets_switch, meets_behind_switch, meets_then, meets_else, meets_head, meets_body, meets_block, meets_no_case, meets_no_arm, meets_taken_arm, following_first, following_more, following_here, following_ends, turning_first, turning_here, turning_more, turning_last, both_turning_first, both_turning_here, both_turning_more, both_turning_last}
+use Rattle.vlt_paths.proofs.Pairing.{meets_scope, meets_focus, meets_after_choice, meets_loop, meets_after_loop, meets_switch, meets_after_switch, meets_then, meets_else, meets_head, meets_body, meets_block, meets_no_case, meets_no_arm, meets_taken_arm, following_first, following_more, following_here, following_ends, turning_first, turning_here, turning_more, turning_last, both_turning_first, both_turning_here, both_turning_more, both_turning_last}
 use Rattle.vlt_paths.proofs.together.+together.Goals as goal
 
 pub meet_block-returns : goal.meet_block-returns
@@ -46,13 +46,13 @@ pub meet_stmts-returns : goal.meet_stmts-returns
 meet_stmts-returns t c ts l = following_ends (program_of c.args.p.now) (instance (program_of c.args.p.now) (func_of c.args.f.now) c.args.hunt.origin) c.args.hunt c.args.left c.args.stmts.now c.args.pair c.loop-s.s-index c.loop-s.here c.loop-s-test.false c.loop-s.invariant ts l
 
 pub meet_switch-returns-in-None : goal.meet_switch-returns-in-None
-meet_switch-returns-in-None t c ts l = meets_no_case c.args.hunt c.args.at (program_of c.args.p.now) (instance (program_of c.args.p.now) (func_of c.args.f.now) c.args.hunt.origin) ts c.args.v.0 _ c.args.arms.now c.args.pair c.past_switch-behind.result c.past_switch-behind.ensures c.arm.result c.in-None.is c.arm.ensures.none
+meet_switch-returns-in-None t c ts l = meets_no_case c.args.hunt c.args.at (program_of c.args.p.now) (instance (program_of c.args.p.now) (func_of c.args.f.now) c.args.hunt.origin) ts c.args.v.0 _ c.args.arms.now c.args.pair c.past_switch-following.result c.past_switch-following.ensures c.arm.result c.in-None.is c.arm.ensures.none
 
 pub meet_switch-returns-in-None-arm_at : goal.meet_switch-returns-in-None-arm_at
-meet_switch-returns-in-None-arm_at t c ts l = meets_no_arm c.args.hunt c.args.at (program_of c.args.p.now) (instance (program_of c.args.p.now) (func_of c.args.f.now) c.args.hunt.origin) ts c.args.v.0 _ c.args.arms.now c.args.pair c.past_switch-behind.result c.past_switch-behind.ensures c.in-Some.position (rw c.in-Some.is at c.arm.ensures.some) (sym (rw c.in-None-arm_at.is at c.arm_at.ensures))
+meet_switch-returns-in-None-arm_at t c ts l = meets_no_arm c.args.hunt c.args.at (program_of c.args.p.now) (instance (program_of c.args.p.now) (func_of c.args.f.now) c.args.hunt.origin) ts c.args.v.0 _ c.args.arms.now c.args.pair c.past_switch-following.result c.past_switch-following.ensures c.in-Some.position (rw c.in-Some.is at c.arm.ensures.some) (sym (rw c.in-None-arm_at.is at c.arm_at.ensures))
 
 pub meet_switch-returns-in-Some-arm_at : goal.meet_switch-returns-in-Some-arm_at
-meet_switch-returns-in-Some-arm_at t c ts l = meets_taken_arm c.args.hunt c.args.at (program_of c.args.p.now) (instance (program_of c.args.p.now) (func_of c.args.f.now) c.args.hunt.origin) ts c.args.v.0 _ c.args.arms.now c.args.pair c.past_switch-behind.result c.past_switch-behind.ensures c.in-Some.position (rw c.in-Some.is at c.arm.ensures.some) c.in-Some-arm_at.arm.now c.as_slice.result.now c.take.result c.past_arm-inside.result c.meet_block.result (sym (rw c.in-Some-arm_at.is at c.arm_at.ensures)) c.as_slice.ensures c.take.ensures c.past_arm-inside.ensures (c.meet_block.ensures ts l)
+meet_switch-returns-in-Some-arm_at t c ts l = meets_taken_arm c.args.hunt c.args.at (program_of c.args.p.now) (instance (program_of c.args.p.now) (func_of c.args.f.now) c.args.hunt.origin) ts c.args.v.0 _ c.args.arms.now c.args.pair c.past_switch-following.result c.past_switch-following.ensures c.in-Some.position (rw c.in-Some.is at c.arm.ensures.some) c.in-Some-arm_at.arm.now c.as_slice.result.now c.take.result c.past_arm-inside.result c.meet_block.result (sym (rw c.in-Some-arm_at.is at c.arm_at.ensures)) c.as_slice.ensures c.take.ensures c.past_arm-inside.ensures (c.meet_block.ensures ts l)
 
 pub meet_turn-returns-then-is_join : goal.meet_turn-returns-then-is_join
 meet_turn-returns-then-is_join t c = meets_head c.args.hunt c.args.at (expr_rows (program_of c.args.p.now) (instance (program_of c.args.p.now) (func_of c.args.f.now) c.args.hunt.origin) (expr_of c.args.cond.now)) (flow_of_block (program_of c.args.p.now) (instance (program_of c.args.p.now) (func_of c.args.f.now) c.args.hunt.origin) [] (block_of c.args.body.now)) c.args.pair c.is_join.result c.is_join.ensures c.if-is_join.true
@@ -70,21 +70,21 @@ pub meet_turns-loop-here-preserved : goal.meet_turns-loop-here-preserved
 meet_turns-loop-here-preserved t c = turning_more c.args.hunt c.args.at (expr_rows (program_of c.args.p.now) (instance (program_of c.args.p.now) (func_of c.args.f.now) c.args.hunt.origin) (expr_of c.args.cond.now)) (flow_of_block (program_of c.args.p.now) (instance (program_of c.args.p.now) (func_of c.args.f.now) c.args.hunt.origin) [] (block_of c.args.body.now)) c.args.pair c.loop-here.here c.meet_turn.result c.go_turn-turn.result c.loop-here.invariant c.meet_turn.ensures c.if-meet_turn.false c.go_turn-turn.ensures.along c.in-Continue.is
 
 pub meet_form-returns-else-meet_loop : goal.meet_form-returns-else-meet_loop
-meet_form-returns-else-meet_loop t c ts l = rw (while_form _ _ _ c.in-While.is) (meets_behind_loop c.args.hunt c.args.at (expr_rows (program_of c.args.p.now) (instance (program_of c.args.p.now) (func_of c.args.f.now) c.args.hunt.origin) (expr_of c.in-While.cond)) (flow_of_block (program_of c.args.p.now) (instance (program_of c.args.p.now) (func_of c.args.f.now) c.args.hunt.origin) [] (block_of c.in-While.body)) _ c.args.pair c.meet_loop.result c.meet_behind-else-meet_loop.result (end_is (program_of c.args.p.now) (instance (program_of c.args.p.now) (func_of c.args.f.now) c.args.hunt.origin) [] c.in-While.body) c.meet_loop.ensures c.if-meet_loop.false (rw (while_form _ _ _ c.in-While.is) at (c.meet_behind-else-meet_loop.ensures ts l)))
+meet_form-returns-else-meet_loop t c ts l = rw (while_form _ _ _ c.in-While.is) (meets_after_loop c.args.hunt c.args.at (expr_rows (program_of c.args.p.now) (instance (program_of c.args.p.now) (func_of c.args.f.now) c.args.hunt.origin) (expr_of c.in-While.cond)) (flow_of_block (program_of c.args.p.now) (instance (program_of c.args.p.now) (func_of c.args.f.now) c.args.hunt.origin) [] (block_of c.in-While.body)) _ c.args.pair c.meet_loop.result c.meet_after-else-meet_loop.result (end_is (program_of c.args.p.now) (instance (program_of c.args.p.now) (func_of c.args.f.now) c.args.hunt.origin) [] c.in-While.body) c.meet_loop.ensures c.if-meet_loop.false (rw (while_form _ _ _ c.in-While.is) at (c.meet_after-else-meet_loop.ensures ts l)))
 
 pub meet_form-returns-else-meet_switch : goal.meet_form-returns-else-meet_switch
-meet_form-returns-else-meet_switch t c ts l = rw (switch_form _ _ _ _ c.in-Switch.is) (meets_behind_switch c.args.hunt c.args.at _ _ c.in-Switch.end c.args.pair c.meet_switch.result c.meet_behind-else-meet_switch.result ((rw c.as_slice.ensures at c.meet_switch.ensures) ts l) c.if-meet_switch.false (rw (switch_form _ _ _ _ c.in-Switch.is) at (c.meet_behind-else-meet_switch.ensures ts l)))
+meet_form-returns-else-meet_switch t c ts l = rw (switch_form _ _ _ _ c.in-Switch.is) (meets_after_switch c.args.hunt c.args.at _ _ c.in-Switch.end c.args.pair c.meet_switch.result c.meet_after-else-meet_switch.result ((rw c.as_slice.ensures at c.meet_switch.ensures) ts l) c.if-meet_switch.false (rw (switch_form _ _ _ _ c.in-Switch.is) at (c.meet_after-else-meet_switch.ensures ts l)))
 
 pub meet_form-returns-then-meet_block : goal.meet_form-returns-then-meet_block
-meet_form-returns-then-meet_block t c ts l = rw (if_form _ _ _ _ c.in-If.is) (meets_then c.args.hunt c.args.at _ _ _ c.args.pair c.past_expr-behind.result c.take.result c.take.result c.meet_block.result c.meet_block.result c.past_expr-behind.ensures c.take.ensures (c.meet_block.ensures ts l) c.if-meet_block.true)
+meet_form-returns-then-meet_block t c ts l = rw (if_form _ _ _ _ c.in-If.is) (meets_then c.args.hunt c.args.at _ _ _ c.args.pair c.past_expr-following.result c.take.result c.take.result c.meet_block.result c.meet_block.result c.past_expr-following.ensures c.take.ensures (c.meet_block.ensures ts l) c.if-meet_block.true)
 
 pub meet_form-returns-then-meet_block-2 : goal.meet_form-returns-then-meet_block-2
 meet_form-returns-then-meet_block-2 t c ts l =
-    rw (if_form _ _ _ _ c.in-If.is) (meets_else c.args.hunt c.args.at (expr_rows (program_of c.args.p.now) (instance (program_of c.args.p.now) (func_of c.args.f.now) c.args.hunt.origin) (expr_of c.in-If.cond)) (flow_of_block (program_of c.args.p.now) (instance (program_of c.args.p.now) (func_of c.args.f.now) c.args.hunt.origin) ts (block_of c.in-If.then_block)) (flow_of_block (program_of c.args.p.now) (instance (program_of c.args.p.now) (func_of c.args.f.now) c.args.hunt.origin) ts (block_of c.in-If.else_block)) c.args.pair c.past_expr-behind.result c.take.result c.take-in-If.result c.meet_block.result c.meet_block-in-If.result c.past_expr-behind.ensures c.take.ensures (c.meet_block.ensures ts l) c.if-meet_block.false c.take-in-If.ensures (c.meet_block-in-If.ensures ts l) c.if-meet_block-2.true)
+    rw (if_form _ _ _ _ c.in-If.is) (meets_else c.args.hunt c.args.at (expr_rows (program_of c.args.p.now) (instance (program_of c.args.p.now) (func_of c.args.f.now) c.args.hunt.origin) (expr_of c.in-If.cond)) (flow_of_block (program_of c.args.p.now) (instance (program_of c.args.p.now) (func_of c.args.f.now) c.args.hunt.origin) ts (block_of c.in-If.then_block)) (flow_of_block (program_of c.args.p.now) (instance (program_of c.args.p.now) (func_of c.args.f.now) c.args.hunt.origin) ts (block_of c.in-If.else_block)) c.args.pair c.past_expr-following.result c.take.result c.take-in-If.result c.meet_block.result c.meet_block-in-If.result c.past_expr-following.ensures c.take.ensures (c.meet_block.ensures ts l) c.if-meet_block.false c.take-in-If.ensures (c.meet_block-in-If.ensures ts l) c.if-meet_block-2.true)
 
 pub meet_form-returns-else-meet_block-2 : goal.meet_form-returns-else-meet_block-2
 meet_form-returns-else-meet_block-2 t c ts l =
-    rw (if_form _ _ _ _ c.in-If.is) (meets_behind_choice c.args.hunt c.args.at (expr_rows (program_of c.args.p.now) (instance (program_of c.args.p.now) (func_of c.args.f.now) c.args.hunt.origin) (expr_of c.in-If.cond)) (flow_of_block (program_of c.args.p.now) (instance (program_of c.args.p.now) (func_of c.args.f.now) c.args.hunt.origin) ts (block_of c.in-If.then_block)) (flow_of_block (program_of c.args.p.now) (instance (program_of c.args.p.now) (func_of c.args.f.now) c.args.hunt.origin) ts (block_of c.in-If.else_block)) c.args.pair c.past_expr-behind.result c.take.result c.take-in-If.result c.meet_block.result c.meet_block-in-If.result c.past_expr-behind.ensures c.take.ensures (c.meet_block.ensures ts l) c.if-meet_block.false c.take-in-If.ensures (c.meet_block-in-If.ensures ts l) (out-Block c.in-If.else_block).end c.meet_behind.result (end_is (program_of c.args.p.now) (instance (program_of c.args.p.now) (func_of c.args.f.now) c.args.hunt.origin) ts c.in-If.else_block) c.if-meet_block-2.false (rw (if_form _ _ _ _ c.in-If.is) at (c.meet_behind.ensures ts l)))
+    rw (if_form _ _ _ _ c.in-If.is) (meets_after_choice c.args.hunt c.args.at (expr_rows (program_of c.args.p.now) (instance (program_of c.args.p.now) (func_of c.args.f.now) c.args.hunt.origin) (expr_of c.in-If.cond)) (flow_of_block (program_of c.args.p.now) (instance (program_of c.args.p.now) (func_of c.args.f.now) c.args.hunt.origin) ts (block_of c.in-If.then_block)) (flow_of_block (program_of c.args.p.now) (instance (program_of c.args.p.now) (func_of c.args.f.now) c.args.hunt.origin) ts (block_of c.in-If.else_block)) c.args.pair c.past_expr-following.result c.take.result c.take-in-If.result c.meet_block.result c.meet_block-in-If.result c.past_expr-following.ensures c.take.ensures (c.meet_block.ensures ts l) c.if-meet_block.false c.take-in-If.ensures (c.meet_block-in-If.ensures ts l) (out-Block c.in-If.else_block).end c.meet_after.result (end_is (program_of c.args.p.now) (instance (program_of c.args.p.now) (func_of c.args.f.now) c.args.hunt.origin) ts c.in-If.else_block) c.if-meet_block-2.false (rw (if_form _ _ _ _ c.in-If.is) at (c.meet_after.ensures ts l)))
 
 pub meet_form-returns-in_default : goal.meet_form-returns-in_default
 meet_form-returns-in_default t c ts l = c.meet_step.ensures (program_of c.args.p.now) (instance (program_of c.args.p.now) (func_of c.args.f.now) c.args.hunt.origin) ts c.args.hunt c.args.at c.args.pair

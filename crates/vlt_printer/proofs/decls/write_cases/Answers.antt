@@ -2,7 +2,8 @@ use Rattle.std.proofs.Common.{◌≡◌, ◌++◌, map, length, arith, rules}
 use Rattle.std.specs.Prelude.{codes}
 use Rattle.std.proofs.lemmas.Grind.{common_steps}
 use Rattle.vlt_syntax.specs.View.{case_of}
-use Rattle.vlt_printer.specs.Lists.{text, separated_after}
+use Rattle.vlt_base.specs.Layout.{text}
+use Rattle.vlt_printer.specs.Lists.{separated_after}
 use Rattle.vlt_printer.specs.Layout.{case_after}
 use Rattle.vlt_printer.proofs.Braces.{some_cases}
 use Rattle.vlt_printer.proofs.decls.write_cases.Goals as goal

@@ -1,6 +1,7 @@
 use Rattle.std.proofs.Common.{◌≡◌, ◌++◌, map, length, arith, rules}
 use Rattle.std.proofs.lemmas.Grind.{common_steps}
-use Rattle.vlt_printer.specs.Lists.{written, listed_after}
+use Rattle.vlt_base.specs.Layout.{written}
+use Rattle.vlt_printer.specs.Lists.{listed_after}
 use Rattle.vlt_printer.proofs.Braces.{some_enclosed}
 use Rattle.vlt_printer.proofs.lists.write_enclosed.Goals as goal
 

@@ -1,5 +1,6 @@
 use Rattle.std.proofs.Common.{◌≡◌, map, drop}
-use Rattle.vlt_printer.specs.Lists.{written, further_after}
+use Rattle.vlt_base.specs.Layout.{written}
+use Rattle.vlt_printer.specs.Lists.{further_after}
 use Rattle.vlt_printer.proofs.lists.write_separated.Given as goal
 
 -- what is left, after what was written, is the whole

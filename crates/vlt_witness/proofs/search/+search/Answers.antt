@@ -52,11 +52,11 @@ search_if-returns t c =
     let joined = subst (λ l. Joined (On c.in_ok-a.a.next) (On c.in_ok-b.b.next) (On l)) (sym same) both in
     let end : end_of v ≡ (out-FlowBlock c.args.else_block.now).end = ap end_of (block_parts c.args.else_block.now) in
     let n3 : c.in_ok-b.b.number ≡ c.args.number + length rs + spots_block u + spots_block v = second.number in
-    let b2 : c.in_ok-behind.field-0 ≡ c.in_ok-b.b.number + 1 = c.in_ok-behind.ensures in
+    let b2 : c.in_ok-following.field-0 ≡ c.in_ok-b.b.number + 1 = c.in_ok-following.ensures in
     let list = c.as_slice-4.ensures in
     let shown : c.as_slice-4.result.now ≡ next = list ∙ sym same in
     let seen = rw (← end, shown, n3) at c.in_ok-see_join.ensures in
-    let r : Went = record { next = next; number = c.in_ok-behind.field-0 } in
+    let r : Went = record { next = next; number = c.in_ok-following.field-0 } in
     searched_choose a c.args.at c.args.number rs u v c.args.ways c.in_ok-passed.passed c.args.jumps.now c.search_way.new.jumps c.search_way-2.new.jumps c.args.met.now c.pass.new.met c.search_way.new.met c.search_way-2.new.met c.see_join.new.list c.in_ok-a.a c.in_ok-b.b r
     c.in_ok-passed.ensures.walks c.in_ok-passed.ensures.sees first second joined seen (omega (arith, b2, n3))
 
@@ -66,8 +66,8 @@ search_turn-returns t c =
     let rs = rows_view c.args.rows.now in
     let s = block_view c.args.body.now in
     let long = length-map c.args.rows.now row_of in
-    let b1 : c.in_ok-behind.field-0 ≡ c.args.number + 1 = c.in_ok-behind.ensures in
-    let b2 : c.in_ok-first.first ≡ c.in_ok-behind.field-0 + length c.args.rows.now = c.in_ok-first.ensures in
+    let b1 : c.in_ok-following.field-0 ≡ c.args.number + 1 = c.in_ok-following.ensures in
+    let b2 : c.in_ok-first.first ≡ c.in_ok-following.field-0 + length c.args.rows.now = c.in_ok-first.ensures in
     let n1 : c.in_ok-first.first ≡ c.args.number + 1 + length rs = omega (arith, b1, b2, long) in
     let head = rw c.as_slice.ensures at c.in_ok-see_join.ensures in
     let out = rw c.as_slice-2.ensures at c.in_ok-chosen.ensures in
@@ -90,12 +90,12 @@ search_while-returns t c = λ j.
     let away = rw (c.as_slice-5.ensures, c.as_slice-6.ensures) at c.in_ok-next.ensures in
     let outs = subst (λ l. Spreads (By (On c.in_ok-turned.turned.leave)) (CanBy (On c.in_ok-turned.turned.leave)) (On c.in_ok-heads.heads) nothing_found (On l)) (sym same) away in
     let n : c.in_ok-turned.turned.number ≡ c.args.number + 1 + length rs + spots_block s = c.in_ok-turned.ensures.number in
-    let b : c.in_ok-behind.field-0 ≡ c.in_ok-turned.turned.number + 1 = c.in_ok-behind.ensures in
+    let b : c.in_ok-following.field-0 ≡ c.in_ok-turned.turned.number + 1 = c.in_ok-following.ensures in
     let end : end_of s ≡ (out-FlowBlock c.args.body.now).end = ap end_of (block_parts c.args.body.now) in
     let list = c.as_slice-7.ensures in
     let shown : c.as_slice-7.result.now ≡ next = list ∙ sym same in
     let seen = rw (← end, shown, n) at c.in_ok-see_join.ensures in
-    let r : Went = record { next = next; number = c.in_ok-behind.field-0 } in
+    let r : Went = record { next = next; number = c.in_ok-following.field-0 } in
     searched_loop a c.args.at c.args.number rs s c.args.ways c.in_ok-heads.heads j c.args.met.now c.compose_seen.new.list c.see_join.new.list c.in_ok-turned.turned r c.in_ok-turned.ensures closed mets outs seen (omega (arith, b, n))
 
 pub search_switch-returns : goal.search_switch-returns
@@ -108,9 +108,9 @@ search_switch-returns t c =
     let n1 : c.in_ok-inside.inside ≡ c.args.number + length rs = omega (arith, b1, long) in
     let inside = rw (c.as_slice.ensures, n1) at c.in_ok-went.ensures in
     let n2 : c.in_ok-went.went.number ≡ c.args.number + length rs + spots_arms arms = inside.number in
-    let b2 : c.in_ok-behind.field-0 ≡ c.in_ok-went.went.number + 1 = c.in_ok-behind.ensures in
+    let b2 : c.in_ok-following.field-0 ≡ c.in_ok-went.went.number + 1 = c.in_ok-following.ensures in
     let seen = rw (c.as_slice-2.ensures, n2) at c.in_ok-see_join.ensures in
-    let r : Went = record { next = c.in_ok-went.went.next; number = c.in_ok-behind.field-0 } in
+    let r : Went = record { next = c.in_ok-went.went.next; number = c.in_ok-following.field-0 } in
     searched_switch a c.args.at c.args.number rs arms c.args.end c.args.ways c.in_ok-passed.passed c.args.jumps.now c.search_arms.new.jumps c.args.met.now c.pass.new.met c.search_arms.new.met c.see_join.new.list c.in_ok-went.went r
     c.in_ok-passed.ensures.walks c.in_ok-passed.ensures.sees inside refl seen (omega (arith, b2, n2))
 
@@ -158,9 +158,9 @@ search_focus-returns t c = λ j.
     let inside = rw n1 at c.in_ok-end.ensures in
     let end : end_of s ≡ (out-FlowBlock c.args.body.now).end = ap end_of (block_parts c.args.body.now) in
     let sees = rw (← end) at c.in_ok-next.ensures.sees in
-    let r : Went = record { next = c.in_ok-next.next; number = c.in_ok-behind.field-0 } in
+    let r : Went = record { next = c.in_ok-next.next; number = c.in_ok-following.field-0 } in
     let n2 : c.in_ok-end.end.number ≡ c.args.number + length rs + spots_block s = inside.number in
-    let b2 : c.in_ok-behind.field-0 ≡ c.in_ok-end.end.number + length c.args.after.now = c.in_ok-behind.ensures in
+    let b2 : c.in_ok-following.field-0 ≡ c.in_ok-end.end.number + length c.args.after.now = c.in_ok-following.ensures in
     searched_focus a c.args.at c.args.number rs s es c.args.ways c.in_ok-passed.passed j c.no_jumps-out.result c.search_block.new.jumps c.args.met.now c.pass.new.met c.search_block.new.met c.pass-2.new.met c.in_ok-end.end r
     c.in_ok-passed.ensures.walks c.in_ok-passed.ensures.sees inside c.in_ok-next.ensures.walks sees (omega (arith, b2, wide, n2))
 
@@ -173,9 +173,9 @@ search_block-returns t c =
     let walks = rw (c.as_slice-3.ensures, rows) at c.in_ok-next.ensures.walks in
     let sees = rw (c.as_slice-3.ensures, rows) at c.in_ok-next.ensures.sees in
     let long = length-map b.bound tok_of in
-    let r : Went = record { next = c.in_ok-next.next; number = c.in_ok-behind.field-0 } in
+    let r : Went = record { next = c.in_ok-next.next; number = c.in_ok-following.field-0 } in
     let n : c.in_ok-end.end.number ≡ c.args.number + spots_stmts (stmts_view b.stmts) = inside.number in
-    let b1 : c.in_ok-behind.field-0 ≡ c.in_ok-end.end.number + c.len.result = c.in_ok-behind.ensures in
+    let b1 : c.in_ok-following.field-0 ≡ c.in_ok-end.end.number + c.len.result = c.in_ok-following.ensures in
     let b2 : c.len.result ≡ length b.bound = c.len.ensures in
     let made = searched_block a c.args.number (stmts_view b.stmts) (toks_of b.bound) b.end c.args.ways c.args.jumps.now c.search_list.new.jumps c.args.met.now c.search_list.new.met c.pass.new.met c.in_ok-end.end r inside walks sees (omega (arith, b1, b2, long, n)) in
     subst (λ s. SearchedBlock a c.args.number s c.args.ways c.args.jumps.now c.search_list.new.jumps c.args.met.now c.pass.new.met r) (sym (block_parts c.args.block.now)) made
@@ -285,8 +285,8 @@ search_if-returns-in_err-b t c =
     passed_on _ _ _ c.from_residual-in_err-b.ensures.1 (rw n2 at c.in_err-b.ensures)
     (λ h. choose_second c.args.number rs u (block_view c.args.else_block.now) h)
 
-pub search_if-returns-in_err-behind : goal.search_if-returns-in_err-behind
-search_if-returns-in_err-behind t c =
+pub search_if-returns-in_err-following : goal.search_if-returns-in_err-following
+search_if-returns-in_err-following t c =
     let rs = rows_view c.args.rows.now in
     let u = block_view c.args.then_block.now in
     let v = block_view c.args.else_block.now in
@@ -297,18 +297,18 @@ search_if-returns-in_err-behind t c =
     let n2 : c.in_ok-a.a.number ≡ c.args.number + length rs + spots_block u = first.number in
     let second = rw n2 at c.in_ok-b.ensures in
     let n3 : c.in_ok-b.b.number ≡ c.args.number + length rs + spots_block u + spots_block v = second.number in
-    passed_on _ _ _ c.from_residual-in_err-behind.ensures.1 (rw n3 at c.in_err-behind.ensures)
+    passed_on _ _ _ c.from_residual-in_err-following.ensures.1 (rw n3 at c.in_err-following.ensures)
     (λ h. choose_end c.args.number rs u v h)
 
-pub search_turn-returns-in_err-behind : goal.search_turn-returns-in_err-behind
-search_turn-returns-in_err-behind t c =
-    passed_on _ _ _ c.from_residual-in_err-behind.ensures.1 c.in_err-behind.ensures
+pub search_turn-returns-in_err-following : goal.search_turn-returns-in_err-following
+search_turn-returns-in_err-following t c =
+    passed_on _ _ _ c.from_residual-in_err-following.ensures.1 c.in_err-following.ensures
     (λ h. turn_head c.args.number (rows_view c.args.rows.now) (block_view c.args.body.now) h)
 
 pub search_turn-returns-in_err-first : goal.search_turn-returns-in_err-first
 search_turn-returns-in_err-first t c =
     let long = length-map c.args.rows.now row_of in
-    let b1 : c.in_ok-behind.field-0 ≡ c.args.number + 1 = c.in_ok-behind.ensures in
+    let b1 : c.in_ok-following.field-0 ≡ c.args.number + 1 = c.in_ok-following.ensures in
     passed_on _ _ _ c.from_residual-in_err-first.ensures.1 c.in_err-first.ensures
     (λ h. turn_rows c.args.number (rows_view c.args.rows.now) (block_view c.args.body.now) (omega (arith, h, long, b1)))
 
@@ -316,8 +316,8 @@ pub search_turn-returns-in_err-end : goal.search_turn-returns-in_err-end
 search_turn-returns-in_err-end t c =
     let rs = rows_view c.args.rows.now in
     let long = length-map c.args.rows.now row_of in
-    let b1 : c.in_ok-behind.field-0 ≡ c.args.number + 1 = c.in_ok-behind.ensures in
-    let b2 : c.in_ok-first.first ≡ c.in_ok-behind.field-0 + length c.args.rows.now = c.in_ok-first.ensures in
+    let b1 : c.in_ok-following.field-0 ≡ c.args.number + 1 = c.in_ok-following.ensures in
+    let b2 : c.in_ok-first.first ≡ c.in_ok-following.field-0 + length c.args.rows.now = c.in_ok-first.ensures in
     let n1 : c.in_ok-first.first ≡ c.args.number + 1 + length rs = omega (arith, b1, b2, long) in
     passed_on _ _ _ c.from_residual-in_err-end.ensures.1 (rw n1 at c.in_err-end.ensures) (λ h. h)
 
@@ -326,12 +326,12 @@ search_while-returns-in_err-turned t c = λ j.
     passed_on _ _ _ c.from_residual.ensures.1 c.in_err-turned.ensures
     (λ h. loop_turn c.args.number (rows_view c.args.rows.now) (block_view c.args.body.now) h)
 
-pub search_while-returns-in_err-behind : goal.search_while-returns-in_err-behind
-search_while-returns-in_err-behind t c = λ j.
+pub search_while-returns-in_err-following : goal.search_while-returns-in_err-following
+search_while-returns-in_err-following t c = λ j.
     let rs = rows_view c.args.rows.now in
     let s = block_view c.args.body.now in
     let n : c.in_ok-turned.turned.number ≡ c.args.number + 1 + length rs + spots_block s = c.in_ok-turned.ensures.number in
-    passed_on _ _ _ c.from_residual-in_err-behind.ensures.1 (rw n at c.in_err-behind.ensures)
+    passed_on _ _ _ c.from_residual-in_err-following.ensures.1 (rw n at c.in_err-following.ensures)
     (λ h. loop_end c.args.number rs s h)
 
 pub search_switch-returns-in_err-inside : goal.search_switch-returns-in_err-inside
@@ -349,8 +349,8 @@ search_switch-returns-in_err-went t c =
     passed_on _ _ _ c.from_residual-in_err-went.ensures.1 (rw n1 at c.in_err-went.ensures)
     (λ h. switch_arms c.args.number rs (arms_view c.args.arms.now) c.args.end h)
 
-pub search_switch-returns-in_err-behind : goal.search_switch-returns-in_err-behind
-search_switch-returns-in_err-behind t c =
+pub search_switch-returns-in_err-following : goal.search_switch-returns-in_err-following
+search_switch-returns-in_err-following t c =
     let rs = rows_view c.args.rows.now in
     let arms = arms_view c.args.arms.now in
     let long = length-map c.args.rows.now row_of in
@@ -358,7 +358,7 @@ search_switch-returns-in_err-behind t c =
     let n1 : c.in_ok-inside.inside ≡ c.args.number + length rs = omega (arith, b1, long) in
     let inside = rw n1 at c.in_ok-went.ensures in
     let n2 : c.in_ok-went.went.number ≡ c.args.number + length rs + spots_arms arms = inside.number in
-    passed_on _ _ _ c.from_residual-in_err-behind.ensures.1 (rw n2 at c.in_err-behind.ensures)
+    passed_on _ _ _ c.from_residual-in_err-following.ensures.1 (rw n2 at c.in_err-following.ensures)
     (λ h. switch_end c.args.number rs arms c.args.end h)
 
 pub search_arm-returns-in_err-inside : goal.search_arm-returns-in_err-inside
@@ -402,8 +402,8 @@ search_focus-returns-in_err-end t c = λ j.
     passed_on _ _ _ c.from_residual-in_err-end.ensures.1 (rw n1 at c.in_err-end.ensures)
     (λ h. focus_body c.args.number rs (block_view c.args.body.now) (rows_view c.args.after.now) h)
 
-pub search_focus-returns-in_err-behind : goal.search_focus-returns-in_err-behind
-search_focus-returns-in_err-behind t c = λ j.
+pub search_focus-returns-in_err-following : goal.search_focus-returns-in_err-following
+search_focus-returns-in_err-following t c = λ j.
     let rs = rows_view c.args.rows.now in
     let s = block_view c.args.body.now in
     let long = length-map c.args.rows.now row_of in
@@ -412,7 +412,7 @@ search_focus-returns-in_err-behind t c = λ j.
     let n1 : c.in_ok-inside.inside ≡ c.args.number + length rs = omega (arith, b1, long) in
     let inside = rw n1 at c.in_ok-end.ensures in
     let n2 : c.in_ok-end.end.number ≡ c.args.number + length rs + spots_block s = inside.number in
-    passed_on _ _ _ c.from_residual-in_err-behind.ensures.1 c.in_err-behind.ensures
+    passed_on _ _ _ c.from_residual-in_err-following.ensures.1 c.in_err-following.ensures
     (λ h. focus_end c.args.number rs s (rows_view c.args.after.now) (omega (arith, h, n2, wide)))
 
 pub search_block-returns-in_err-end : goal.search_block-returns-in_err-end
@@ -421,14 +421,14 @@ search_block-returns-in_err-end t c =
     passed_on _ _ _ c.from_residual.ensures.1 (rw c.as_slice.ensures at c.in_err-end.ensures)
     (λ h. subst (LargeBlock c.args.number) (sym (block_parts c.args.block.now)) (block_stmts c.args.number (stmts_view b.stmts) (toks_of b.bound) b.end h))
 
-pub search_block-returns-in_err-behind : goal.search_block-returns-in_err-behind
-search_block-returns-in_err-behind t c =
+pub search_block-returns-in_err-following : goal.search_block-returns-in_err-following
+search_block-returns-in_err-following t c =
     let b = out-FlowBlock c.args.block.now in
     let inside = rw c.as_slice.ensures at c.in_ok-end.ensures in
     let long = length-map b.bound tok_of in
     let n : c.in_ok-end.end.number ≡ c.args.number + spots_stmts (stmts_view b.stmts) = inside.number in
     let b2 : c.len.result ≡ length b.bound = c.len.ensures in
-    passed_on _ _ _ c.from_residual-in_err-behind.ensures.1 c.in_err-behind.ensures
+    passed_on _ _ _ c.from_residual-in_err-following.ensures.1 c.in_err-following.ensures
     (λ h. subst (LargeBlock c.args.number) (sym (block_parts c.args.block.now)) (block_end c.args.number (stmts_view b.stmts) (toks_of b.bound) b.end (omega (arith, h, n, b2, long))))
 
 pub search_list-returns-in_err-went : goal.search_list-returns-in_err-went

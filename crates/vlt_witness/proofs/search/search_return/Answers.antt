@@ -10,11 +10,11 @@ use Rattle.vlt_witness.proofs.search.search_return.Goals as goal
 pub returns : goal.returns
 returns c = λ j.
     let long = length-map c.args.rows.now row_of in
-    let b : c.in_ok-behind.field-0 ≡ c.args.number + length c.args.rows.now = c.in_ok-behind.ensures in
-    let r : Went = record { next = c.new.result; number = c.in_ok-behind.field-0 } in
+    let b : c.in_ok-following.field-0 ≡ c.args.number + length c.args.rows.now = c.in_ok-following.ensures in
+    let r : Went = record { next = c.new.result; number = c.in_ok-following.field-0 } in
     searched_return c.args.aim c.args.at c.args.number (rows_view c.args.rows.now) c.args.ways c.in_ok-_ended._ended j c.args.met.now c.pass.new.met r c.in_ok-_ended.ensures.walks c.in_ok-_ended.ensures.sees c.new.ensures (omega (arith, b, long))
 
-pub returns-in_err-behind : goal.returns-in_err-behind
-returns-in_err-behind c = λ j.
+pub returns-in_err-following : goal.returns-in_err-following
+returns-in_err-following c = λ j.
     let long = length-map c.args.rows.now row_of in
-    passed_on _ _ _ c.from_residual-in_err-behind.ensures.1 c.in_err-behind.ensures (λ h. inl (omega (arith, h, long)))
+    passed_on _ _ _ c.from_residual-in_err-following.ensures.1 c.in_err-following.ensures (λ h. inl (omega (arith, h, long)))

@@ -20,7 +20,7 @@ tables c = record {
   where
     cleared : (k : ℕ) → (k < c.in-Some.place * c.args.self.now.width) ⊎ (c.in-Some.place * c.args.self.now.width + (c.args.numbers + c.args.references) ≤ k) → slice_get c.clear.new.cells.items k ≡ slice_get c.grow_to.new.cells.items k
     cleared k (inl l) = c.clear.ensures.before k l
-    cleared k (inr l) = c.clear.ensures.behind k l
+    cleared k (inr l) = c.clear.ensures.following k l
 
     outside : (k : ℕ) → (k < c.in-Some.place * c.args.self.now.width) ⊎ (c.in-Some.place * c.args.self.now.width + (c.args.numbers + c.args.references) ≤ k) → k < length c.args.self.now.cells.items
         → slice_get c.clear.new.cells.items k ≡ slice_get c.args.self.now.cells.items k

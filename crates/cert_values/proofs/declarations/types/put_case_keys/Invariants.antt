@@ -5,7 +5,7 @@ use Rattle.cert_rows.specs.Values.{case_key}
 use Rattle.cert_values.specs.Laid.{items_laid}
 use Rattle.cert_values.proofs.declarations.types.put_case_keys.Given as goal
 
--- what is left, behind what was written, is the whole
+-- what is left, after what was written, is the whole
 abbrev pub invariant-loop-key : goal.invariant-loop-key
 invariant-loop-key l =
     items_laid (items_of (map case_key.data_of (map case_key_of (drop l.key-index l.keys)))) l.out ≡ items_laid (items_of (map case_key.data_of (map case_key_of l.keys))) l.initial.out

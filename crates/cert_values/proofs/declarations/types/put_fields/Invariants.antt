@@ -5,7 +5,7 @@ use Rattle.cert_rows.specs.Values.{field}
 use Rattle.cert_values.specs.Laid.{items_laid}
 use Rattle.cert_values.proofs.declarations.types.put_fields.Given as goal
 
--- what is left, behind what was written, is the whole
+-- what is left, after what was written, is the whole
 abbrev pub invariant-loop-field : goal.invariant-loop-field
 invariant-loop-field l =
     items_laid (items_of (map field.data_of (map field_of (drop l.field-index l.fields)))) l.out ≡ items_laid (items_of (map field.data_of (map field_of l.fields))) l.initial.out

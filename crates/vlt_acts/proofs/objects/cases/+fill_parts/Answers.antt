@@ -15,7 +15,7 @@ fill_parts-requires n k =
           (
             rw k.put_single.ensures.kept.vars (all_rest (λ v. v.0 < k.args.values.now.vars) k.in-Some.v.now k.in-Some.rest.now k.args.vs.now k.in-Some.ensures.cases.0 k.requires.within),
             (
-              rw (k.put_single.ensures.kept.base, k.put_single.ensures.kept.vars, k.put_single.ensures.kept.width) (omega (arith, k.requires.behind)),
+              rw (k.put_single.ensures.kept.base, k.put_single.ensures.kept.vars, k.put_single.ensures.kept.width) (omega (arith, k.requires.following)),
               rw k.put_single.ensures.kept.long (omega (arith, e, k.requires.there)),
             ),
           ),
@@ -35,4 +35,4 @@ pub returns-in-Some-clause-fills : goal.returns-in-Some-clause-fills
 returns-in-Some-clause-fills n k =
     subst (λ l. FillsParts k.args.from (map (λ v. v.0) l) k.args.values.now k.fill_parts.new.values) (sym k.in-Some.ensures.cases.0)
     (one_filled k.args.values.now k.put_single.new.self k.fill_parts.new.values k.in-Some.v.now.0 k.args.from _ k.place-to.result (map (λ v. v.0) k.in-Some.rest.now) k.slot_at-a.result (omega arith) (all_first (λ v. v.0 < k.args.values.now.vars) k.in-Some.v.now k.in-Some.rest.now k.args.vs.now k.in-Some.ensures.cases.0 k.requires.within)
-    k.requires.wide k.requires.behind k.slot_at-a.ensures k.place-to.ensures.is k.put_single.ensures.kept k.put_single.ensures.filled k.fill_parts.ensures.fills)
+    k.requires.wide k.requires.following k.slot_at-a.ensures k.place-to.ensures.is k.put_single.ensures.kept k.put_single.ensures.filled k.fill_parts.ensures.fills)

@@ -10,4 +10,4 @@ returns-in-Err-clause-puts c =
 pub returns-in-Ok-clause-puts : goal.returns-in-Ok-clause-puts
 returns-in-Ok-clause-puts c =
     new_put c.args.values.now c.put_key.new.self c.put_single.new.self c.args.heap.now c.make_in.new.heap c.args.t.0 c.args.new.state c.args.new.key.0 c.args.to c.in-Ok.number c.in-Ok.o (subst (MakesIn c.args.t.0 c.args.new.state c.args.heap.now c.make_in.new.heap) c.in-Ok.is c.make_in.ensures.makes)
-    c.requires.wide c.requires.key c.requires.behind c.put_key.ensures c.put_single.ensures.kept c.put_single.ensures.filled
+    c.requires.wide c.requires.key c.requires.following c.put_key.ensures c.put_single.ensures.kept c.put_single.ensures.filled

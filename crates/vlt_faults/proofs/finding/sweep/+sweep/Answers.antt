@@ -9,14 +9,14 @@ use Rattle.vlt_faults.proofs.finding.sweep.+sweep.Goals as goal
 pub sweep_way-returns-clause-swept : goal.sweep_way-returns-clause-swept
 sweep_way-returns-clause-swept t c =
     let w = c.sweep_block-end.ensures in
-    let lt : c.args.c < length c.sweep_block-end.new.kept.behind = omega (arith, w.went.behind, c.requires.room.long, c.requires.choice) in
+    let lt : c.args.c < length c.sweep_block-end.new.kept.following = omega (arith, w.went.following, c.requires.room.long, c.requires.choice) in
     (stock_of c.sweep_block-end.new.kept, many_of c.sweep_block-end.result.ones, w.swept, exit_put c.args.c _ c.sweep_block-end.new.kept c.join_exit.new.self lt c.join_exit.ensures.put c.join_exit.ensures.around)
 
 pub sweep_turn-returns-clause-swept : goal.sweep_turn-returns-clause-swept
 sweep_turn-returns-clause-swept t c =
     let w = c.sweep_block-end.ensures in
     let room = c.requires.room in
-    let lt : c.args.n < length c.args.kept.now.behind = omega (arith, room.long, room.fits) in
+    let lt : c.args.n < length c.args.kept.now.following = omega (arith, room.long, room.fits) in
     let lt' : c.args.n < length c.sweep_block-end.new.kept.around = omega (arith, w.went.around, ap length c.join_exit.ensures.around, room.fits) in
     let p = rw c.head.ensures at c.pass_rows-p.ensures in (
       many_of c.pass_rows-p.result,
@@ -26,7 +26,7 @@ sweep_turn-returns-clause-swept t c =
       stock_of c.sweep_block-end.new.kept,
       many_of c.sweep_block-end.result.ones,
       w.swept,
-      head_put c.args.n _ c.sweep_block-end.new.kept c.join_head.new.self lt' c.join_head.ensures.put c.join_head.ensures.behind,
+      head_put c.args.n _ c.sweep_block-end.new.kept c.join_head.new.self lt' c.join_head.ensures.put c.join_head.ensures.following,
     )
 
 pub sweep_block-returns-clause-swept : goal.sweep_block-returns-clause-swept
@@ -62,7 +62,7 @@ sweep_form-returns-in-While-clause-swept t c =
     let room = rw (while_form _ _ _ c.in-While.is) at c.requires.room in
     let turn = rw c.as_slice-in-While.ensures at c.sweep_turn-at.ensures.swept in
     let lt : c.args.n < length c.args.kept.now.around = omega (arith, room.fits) in
-    rw (while_form _ _ _ c.in-While.is) (stock_of c.join_head.new.self, head_put c.args.n c.args.m c.args.kept.now c.join_head.new.self lt c.join_head.ensures.put c.join_head.ensures.behind, turn, c.exit-in-While.ensures)
+    rw (while_form _ _ _ c.in-While.is) (stock_of c.join_head.new.self, head_put c.args.n c.args.m c.args.kept.now c.join_head.new.self lt c.join_head.ensures.put c.join_head.ensures.following, turn, c.exit-in-While.ensures)
 
 pub sweep_form-returns-in-Switch-clause-swept : goal.sweep_form-returns-in-Switch-clause-swept
 sweep_form-returns-in-Switch-clause-swept t c =

@@ -45,8 +45,8 @@ extent_of_form-returns-in-Focus t c =
     let alike = sym (length-map c.in-Focus.after row_of) in
     let own = rw c.as_slice-in-Focus.ensures at c.with_rows-own-in-Focus.ensures in
     let rest = rw c.as_slice-in-Focus-2.ensures at c.extent_of_rows-rest.ensures in
-    let behind = extent_both _ _ _ _ _ _ _ _ _ c.extent_of_block-inside-in-Focus.ensures rest c.both-behind.ensures in
-    rw (focus_form _ _ _ _ c.in-Focus.is) (extent_as _ _ _ _ _ _ _ (extent_both _ _ _ _ _ _ _ _ _ own behind c.both-in-Focus.ensures) (omega arith) (omega (arith, same, alike)) (λ t p. p) (λ t p. p))
+    let following = extent_both _ _ _ _ _ _ _ _ _ c.extent_of_block-inside-in-Focus.ensures rest c.both-following.ensures in
+    rw (focus_form _ _ _ _ c.in-Focus.is) (extent_as _ _ _ _ _ _ _ (extent_both _ _ _ _ _ _ _ _ _ own following c.both-in-Focus.ensures) (omega arith) (omega (arith, same, alike)) (λ t p. p) (λ t p. p))
 
 pub extent_of_form-returns-in-Return : goal.extent_of_form-returns-in-Return
 extent_of_form-returns-in-Return t c =

@@ -17,22 +17,22 @@ pub judge_if-returns : goal.judge_if-returns
 judge_if-returns t c =
     let same = sym (length-map c.args.rows.now row_of) in
     let p = c.judge_rows-p in
-    choose_judged _ _ _ _ _ _ _ _ same p.result.ones c.requires.room c.requires.fits p.ensures.ones _ c.judge_block-a.ensures _ c.exit-behind.result _ _ _ _ _ _ (sym (ap end_of (block_parts c.args.else_block.now)))
-    p.ensures.first c.judge_block-b.ensures c.exit-behind.ensures c.judge_join-join.ensures c.earlier.ensures c.earlier-2.ensures c.earlier-3.ensures
+    choose_judged _ _ _ _ _ _ _ _ same p.result.ones c.requires.room c.requires.fits p.ensures.ones _ c.judge_block-a.ensures _ c.exit-following.result _ _ _ _ _ _ (sym (ap end_of (block_parts c.args.else_block.now)))
+    p.ensures.first c.judge_block-b.ensures c.exit-following.ensures c.judge_join-join.ensures c.earlier.ensures c.earlier-2.ensures c.earlier-3.ensures
 
 pub judge_while-returns : goal.judge_while-returns
 judge_while-returns t c =
     let same = sym (length-map c.args.rows.now row_of) in
     let p = c.judge_rows-p in
-    loop_judged _ _ _ _ _ _ _ same c.head-top.result p.result.ones c.requires.room c.requires.fits c.head-top.ensures p.ensures.ones _ c.exit-behind.result _ _ _ _ _ _ _ (sym (ap end_of (block_parts c.args.body.now)))
-    c.judge_join-head.ensures p.ensures.first c.judge_block-s.ensures c.exit-behind.ensures c.judge_join-join.ensures c.earlier.ensures c.earlier-2.ensures c.earlier-3.ensures
+    loop_judged _ _ _ _ _ _ _ same c.head-top.result p.result.ones c.requires.room c.requires.fits c.head-top.ensures p.ensures.ones _ c.exit-following.result _ _ _ _ _ _ _ (sym (ap end_of (block_parts c.args.body.now)))
+    c.judge_join-head.ensures p.ensures.first c.judge_block-s.ensures c.exit-following.ensures c.judge_join-join.ensures c.earlier.ensures c.earlier-2.ensures c.earlier-3.ensures
 
 pub judge_switch-returns : goal.judge_switch-returns
 judge_switch-returns t c =
     let same = sym (length-map c.args.rows.now row_of) in
     let p = c.judge_rows-p in
-    switch_judged _ _ _ _ _ _ _ _ same p.result.ones c.requires.room c.requires.fits p.ensures.ones _ c.exit-behind.result _ _ _ _
-    p.ensures.first c.judge_arms-s.ensures c.exit-behind.ensures c.judge_join-join.ensures c.earlier.ensures c.earlier-2.ensures
+    switch_judged _ _ _ _ _ _ _ _ same p.result.ones c.requires.room c.requires.fits p.ensures.ones _ c.exit-following.result _ _ _ _
+    p.ensures.first c.judge_arms-s.ensures c.exit-following.ensures c.judge_join-join.ensures c.earlier.ensures c.earlier-2.ensures
 
 pub judge_focus-returns : goal.judge_focus-returns
 judge_focus-returns t c =
@@ -171,8 +171,8 @@ judge_form-judge_rows-p-requires t c =
     let n = room.numbers in
     omega (arith, n, same, ap length c.as_slice-in-Return.ensures)
 
-pub judge_form-behind_all-requires-clause-spots : goal.judge_form-behind_all-requires-clause-spots
-judge_form-behind_all-requires-clause-spots t c =
+pub judge_form-after_all-requires-clause-spots : goal.judge_form-after_all-requires-clause-spots
+judge_form-after_all-requires-clause-spots t c =
     let room = rw (return_form _ _ c.in-Return.is) at c.requires.room in
     let same = sym (length-map c.in-Return.rows row_of) in
     let n = room.numbers in
@@ -185,8 +185,8 @@ judge_form-judge_gone-p-requires t c =
     let n = room.numbers in
     omega (arith, n, same, ap length c.as_slice-in-Jump.ensures)
 
-pub judge_form-behind_all-requires-in-Jump-clause-spots : goal.judge_form-behind_all-requires-in-Jump-clause-spots
-judge_form-behind_all-requires-in-Jump-clause-spots t c =
+pub judge_form-after_all-requires-in-Jump-clause-spots : goal.judge_form-after_all-requires-in-Jump-clause-spots
+judge_form-after_all-requires-in-Jump-clause-spots t c =
     let room = rw (jump_form _ _ _ c.in-Jump.is) at c.requires.room in
     let same = sym (length-map c.in-Jump.left tok_of) in
     let n = room.numbers in
@@ -223,9 +223,9 @@ judge_form-returns-in-Focus t c =
 pub judge_form-returns-in-Return : goal.judge_form-returns-in-Return
 judge_form-returns-in-Return t c =
     let f = rw c.as_slice-in-Return.ensures at c.judge_rows-p.ensures.first in
-    rw (return_form _ _ c.in-Return.is) (return_judged _ _ _ _ _ c.len.result _ (c.len.ensures ∙ sym (length-map c.in-Return.rows row_of)) f c.behind_all.ensures)
+    rw (return_form _ _ c.in-Return.is) (return_judged _ _ _ _ _ c.len.result _ (c.len.ensures ∙ sym (length-map c.in-Return.rows row_of)) f c.after_all.ensures)
 
 pub judge_form-returns-in-Jump : goal.judge_form-returns-in-Jump
 judge_form-returns-in-Jump t c =
     let f = rw c.as_slice-in-Jump.ensures at c.judge_gone-p.ensures.first in
-    rw (jump_form _ _ _ c.in-Jump.is) (jump_judged _ _ _ _ _ _ c.len-in-Jump.result _ (c.len-in-Jump.ensures ∙ sym (length-map c.in-Jump.left tok_of)) f c.behind_all-in-Jump.ensures)
+    rw (jump_form _ _ _ c.in-Jump.is) (jump_judged _ _ _ _ _ _ c.len-in-Jump.result _ (c.len-in-Jump.ensures ∙ sym (length-map c.in-Jump.left tok_of)) f c.after_all-in-Jump.ensures)

@@ -9,7 +9,7 @@ pub judge_block-judged-requires : goal.judge_block-judged-requires
 judge_block-judged-requires c =
     let k = c.in_ok-kept.ensures in
     record {
-      room = room_found _ _ _ c.singles_of-ones.result c.in_ok-kept.kept c.requires (k.around ∙ c.requires.stmts) (k.behind ∙ sym k.around);
+      room = room_found _ _ _ c.singles_of-ones.result c.in_ok-kept.kept c.requires (k.around ∙ c.requires.stmts) (k.following ∙ sym k.around);
       fits = fits_found _ _ c.singles_of-ones.result c.in_ok-kept.kept k.found;
     }
 

@@ -12,7 +12,7 @@ use Rattle.vlt_kinds_heads.proofs.keys.HeadKeys.check_clause_again.Given as goal
 
 abbrev pub invariant-loop-entry : goal.invariant-loop-entry
 invariant-loop-entry l = record {
-  keys : k.behind_clause (keys_seen l.self) (map view.entry_of (drop l.entry-index l.clause)) ≡ k.behind_clause (keys_seen l.initial.self) (map view.entry_of l.clause);
-  refused : found_along k.behind_entry h.again_refused (keys_seen l.self) (map view.entry_of (drop l.entry-index l.clause)) l.found.least
-      ≡ found_along k.behind_entry h.again_refused (keys_seen l.initial.self) (map view.entry_of l.clause) l.initial.found.least;
+  keys : k.following_clause (keys_seen l.self) (map view.entry_of (drop l.entry-index l.clause)) ≡ k.following_clause (keys_seen l.initial.self) (map view.entry_of l.clause);
+  refused : found_along k.following_entry h.again_refused (keys_seen l.self) (map view.entry_of (drop l.entry-index l.clause)) l.found.least
+      ≡ found_along k.following_entry h.again_refused (keys_seen l.initial.self) (map view.entry_of l.clause) l.initial.found.least;
 }

@@ -14,6 +14,6 @@ use Rattle.vlt_kinds_heads.proofs.keys.HeadKeys.check_parameters.Given as goal
 abbrev pub invariant-loop-place : goal.invariant-loop-place
 invariant-loop-place l = record {
   keys : k.parameters_typed (keys_seen l.self) (map use_seen (drop l.place-index l.uses)) ≡ k.parameters_typed (keys_seen l.initial.self) (map use_seen l.uses);
-  refused : found_along k.behind_use h.clash (keys_seen l.self) (map use_seen (drop l.place-index l.uses)) l.found.least
-      ≡ found_along k.behind_use h.clash (keys_seen l.initial.self) (map use_seen l.uses) l.initial.found.least;
+  refused : found_along k.after_use h.clash (keys_seen l.self) (map use_seen (drop l.place-index l.uses)) l.found.least
+      ≡ found_along k.after_use h.clash (keys_seen l.initial.self) (map use_seen l.uses) l.initial.found.least;
 }

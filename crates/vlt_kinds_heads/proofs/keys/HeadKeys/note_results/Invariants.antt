@@ -11,4 +11,4 @@ use Rattle.vlt_kinds_heads.specs.Seen.{keys_seen}
 use Rattle.vlt_kinds_heads.proofs.keys.HeadKeys.note_results.Given as goal
 
 abbrev pub invariant-loop-place : goal.invariant-loop-place
-invariant-loop-place l = k.behind_result (keys_seen l.self) (map use_seen (drop l.place-index l.uses)) ≡ k.behind_result (keys_seen l.initial.self) (map use_seen l.uses)
+invariant-loop-place l = k.following_result (keys_seen l.self) (map use_seen (drop l.place-index l.uses)) ≡ k.following_result (keys_seen l.initial.self) (map use_seen l.uses)

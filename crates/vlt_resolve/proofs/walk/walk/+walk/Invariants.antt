@@ -5,17 +5,17 @@ use Rattle.vlt_kinds.specs.Seen.{kinds_seen}
 use Rattle.vlt_resolve_exprs.specs.Seen.{scope_seen}
 use Rattle.vlt_resolve_stmts.specs.Seen.{around_seen}
 use Rattle.vlt_resolve.specs.Walk.Walk.{walk_stmts, walk_arms}
-use Rattle.vlt_resolve.proofs.OfWalk.Walking.{behind, behind_arms}
+use Rattle.vlt_resolve.proofs.OfWalk.Walking.{following, after_arms}
 use Rattle.vlt_resolve.proofs.walk.walk.+walk.Given as goal
 
 abbrev pub invariant-walk_stmts-loop-stmt : goal.invariant-walk_stmts-loop-stmt
 invariant-walk_stmts-loop-stmt l =
     walk_stmts (kinds_seen l.kinds) (around_seen l.around) (scope_seen l.initial.scope) false (stmts_of l.stmts)
-    ≡ behind (map stmt_of l.made)
+    ≡ following (map stmt_of l.made)
     (walk_stmts (kinds_seen l.kinds) (around_seen l.around) (scope_seen l.scope) l.ended (stmts_of (drop l.stmt-index l.stmts)))
 
 abbrev pub invariant-walk_arms-loop-arm : goal.invariant-walk_arms-loop-arm
 invariant-walk_arms-loop-arm l =
     walk_arms (kinds_seen l.kinds) (around_seen l.around) (scope_seen l.initial.scope) (option_map ty_of l.ty) (arms_of l.arms)
-    ≡ behind_arms (map arm_of l.made)
+    ≡ after_arms (map arm_of l.made)
     (walk_arms (kinds_seen l.kinds) (around_seen l.around) (scope_seen l.scope) (option_map ty_of l.ty) (arms_of (drop l.arm-index l.arms)))

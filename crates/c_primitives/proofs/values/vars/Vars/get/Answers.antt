@@ -1,7 +1,7 @@
 use Rattle.std.proofs.Common.{rules, option_map, sym, ap, ◌∙◌, ◌+◌, slice_get}
 use Rattle.c_meaning.specs.Blocks.{option_join}
 use Rattle.c_primitives.specs.Values.Shown.{value_view}
-use Rattle.c_primitives.proofs.OfValues.Finding.{first_shown, second_shown, none_shown, at_position, at_behind, slot_made}
+use Rattle.c_primitives.proofs.OfValues.Finding.{first_shown, second_shown, none_shown, at_position, at_after, slot_made}
 use Rattle.c_primitives.proofs.values.vars.Vars.get.Goals as goal
 
 pub returns-in-Some-clause-shown : goal.returns-in-Some-clause-shown
@@ -12,10 +12,10 @@ returns-in-Some-clause-made c = slot_made c.args.self.values.now c.at.result c.i
 
 pub returns-in-Some-find-clause-shown : goal.returns-in-Some-find-clause-shown
 returns-in-Some-find-clause-shown c =
-    ap (option_map value_view) (c.at-in-Some-find.ensures ∙ ap (λ l. option_join (slice_get l c.in-Some-find.j)) c.behind.ensures) ∙ second_shown value_view c.args.self.params.now c.args.self.declared.now c.args.self.values.now c.args.v c.min.result c.in-Some-find.j (sym c.find.ensures ∙ c.in-None.is) (sym c.find-in-None.ensures ∙ c.in-Some-find.is) (search rules)
+    ap (option_map value_view) (c.at-in-Some-find.ensures ∙ ap (λ l. option_join (slice_get l c.in-Some-find.j)) c.following.ensures) ∙ second_shown value_view c.args.self.params.now c.args.self.declared.now c.args.self.values.now c.args.v c.min.result c.in-Some-find.j (sym c.find.ensures ∙ c.in-None.is) (sym c.find-in-None.ensures ∙ c.in-Some-find.is) (search rules)
 
 pub returns-in-Some-find-clause-made : goal.returns-in-Some-find-clause-made
-returns-in-Some-find-clause-made c = slot_made c.args.self.values.now c.at-in-Some-find.result (c.min.result + c.in-Some-find.j) (λ a e. at_behind c.args.self.values.now c.min.result c.in-Some-find.j a (sym (c.at-in-Some-find.ensures ∙ ap (λ l. option_join (slice_get l c.in-Some-find.j)) c.behind.ensures) ∙ e))
+returns-in-Some-find-clause-made c = slot_made c.args.self.values.now c.at-in-Some-find.result (c.min.result + c.in-Some-find.j) (λ a e. at_after c.args.self.values.now c.min.result c.in-Some-find.j a (sym (c.at-in-Some-find.ensures ∙ ap (λ l. option_join (slice_get l c.in-Some-find.j)) c.following.ensures) ∙ e))
 
 pub returns-in-None-find-clause-shown : goal.returns-in-None-find-clause-shown
 returns-in-None-find-clause-shown c = none_shown value_view c.args.self.params.now c.args.self.declared.now c.args.self.values.now c.args.v (sym c.find.ensures ∙ c.in-None.is) (sym c.find-in-None.ensures ∙ c.in-None-find.is)

@@ -1,5 +1,5 @@
 use Rattle.c_parser.proofs.Statements.{return_reads, return_is}
-use Rattle.c_parser.proofs.stmts.behind_return.Goals as goal
+use Rattle.c_parser.proofs.stmts.after_return.Goals as goal
 
 pub returns-clause-reads : goal.returns-clause-reads
 returns-clause-reads c =
