@@ -236,7 +236,7 @@ fn walk_function(alloc: Global, kinds: &Kinds<'_>, head: &Func, decl: &Decl) -> 
     match decl {
         Decl::Function { body, at, .. } => walk_defined(alloc, kinds, head, body, at.from),
         Decl::Extern { at, .. } => walk_extern(alloc, head, at.from),
-        _ => Err(Stop::Memory),
+        _ => unreachable!(),
     }
 }
 
