@@ -1,5 +1,5 @@
 -- What `explain` says, from what it has of a fault.
-use Rattle.std.proofs.Common.{◌≡◌, ◌<◌, ℕ, zero, suc, List, [], ◌∷◌, ◌++◌, map, length, get_or, arith, Option, Some, refl, sym, ap, ap₂, ◌∙◌, subst}
+use Rattle.std.proofs.Common.{◌≡◌, ◌<◌, ℕ, zero, suc, List, [], ◌∷◌, ◌++◌, map, length, get_or, arith, Option, Some, inl, inr, refl, sym, ap, ap₂, ◌∙◌, subst}
 use Rattle.std.specs.Prelude.{slice_get}
 use Rattle.vlt_core.specs.Core.{Func, Program}
 use Rattle.vlt_core.specs.Faults.{FlowFault}
@@ -13,7 +13,10 @@ use Rattle.vlt_core.specs.declared.program.Program as core
 use Rattle.vlt_core.specs.declared.program.Func as funcs
 use Rattle.vlt_core.specs.declared.notes.Choice.{Choice}
 use Rattle.vlt_core.specs.FaultView.{kind_of}
+use Rattle.vlt_rows.specs.declared.sink.RowError.TheVariants.{Memory, Unfit}
+use Rattle.vlt_rows.specs.Unfit.{UnfitBy}
 use Rattle.vlt_check.specs.Checks.{fault_of}
+use Rattle.vlt_witness.specs.Unfit.{IsUnfitAt}
 use Rattle.vlt_verdict.specs.FitLaws.Fit.{IsTextTree, ProgramsAreFit}
 use Rattle.vlt_reports.specs.Reports.{fault_line, instance_text, paths_text}
 use Rattle.vlt_syntax.specs.Tree.{Tree}
@@ -22,11 +25,15 @@ use Rattle.vlt_verdict.specs.declared.Verdict as shown
 use Rattle.vlt_verdict.specs.declared.Verdict.TheVariants.{Broken, Exceeded, Faulty, Accepted}
 use Rattle.vlt_verdict.specs.Seen.{IsSeenAs}
 use Rattle.vlt_verdict.specs.Verdicts.{Verdict, faulty, IsVerdictOf}
+use Rattle.cert_text_laws.specs.Texts.{IsProgramOfTexts}
+use Rattle.cert_verify_laws.specs.Causes.{TextsCanBeSearched}
 use Rattle.vaultc_core.specs.declared.status.TheConstants.{NOT_ACCEPTED}
 use Rattle.vaultc_core.specs.Lines.{Reply, reply}
-use Rattle.vaultc_core.specs.Shown.{IsShowable}
+use Rattle.vaultc_core.specs.Shown.{IsJudged, IsShowable}
+use Rattle.vaultc_core.specs.Texts.{IsTextOf}
 use Rattle.vaultc_core.specs.Variables.{variable_in}
 use Rattle.vaultc_core.specs.Verdicts.{check_reply, explained_reply, IsExplained}
+use Rattle.vaultc_core.proofs.OfTexts.{program_of_text}
 
 -- ---- faults
 
@@ -68,10 +75,29 @@ check_explains text t (Faulty p x) s r no_faulty seen e = absurd (no_faulty p x 
 check_explains text t (Accepted p) s r no_faulty seen e = no_fault text t _ s r seen (e ∙ ap (check_reply text) seen)
 
 -- the fault of a verdict on a text's tree can be shown
-pub showable : ProgramsAreFit → (t : Tree) (v : shown.Verdict) → IsTextTree t → (s : Verdict) × IsVerdictOf t s × IsSeenAs v s → IsShowable v
-showable law t (Broken rule at) tree judged = tt
-showable law t (Exceeded n) tree judged = tt
-showable law t (Accepted p) tree judged = tt
-showable law t (Faulty p x) tree (s, is, (f, there, same)) =
+pub showable : ProgramsAreFit → (bytes : List ℕ) (t : Tree) (v : shown.Verdict) → IsTextOf t bytes → IsTextTree t → IsJudged t v → IsShowable v
+showable law bytes t (Broken rule at) reads tree judged = tt
+showable law bytes t (Exceeded n) reads tree judged = tt
+showable law bytes t (Accepted p) reads tree judged = tt
+showable law bytes t (Faulty p x) reads tree (s, is, (f, there, same)) =
     let of_faulty : IsVerdictOf t (faulty (program_of p) f (fault_of x)) = subst (IsVerdictOf t) same is in
-    ((fit_program law t (program_of p) tree of_faulty.0).well_formed, of_faulty.1.first)
+    record {
+      texts = program_of_text bytes t (program_of p) reads tree of_faulty.0;
+      well_formed = (fit_program law t (program_of p) tree of_faulty.0).well_formed;
+      first = of_faulty.1.first;
+    }
+
+-- ---- searches
+
+unfit_is : {A : Type 0} → UnfitBy A Unfit → A
+unfit_is (inl m) = absurd (never m)
+  where
+    never : Unfit ≡ Memory → ⊥
+    never e = cc
+unfit_is (inr u) = u.1
+
+-- no fault of a text's program is where a search finds something unfit
+pub searched : TextsCanBeSearched → (p : Program) (x : FlowFault) → IsProgramOfTexts p → UnfitBy (IsUnfitAt p x) Unfit → ⊥
+searched law p x texts unfit =
+    let found : IsUnfitAt p x = unfit_is unfit in
+    law p texts x.function found.func x.origin found.there found.unfit.with_body found.unfit.origin found.unfit.unfit

@@ -11,7 +11,7 @@ use Rattle.vlt_steps.specs.declared.end.RunEnd.{RunEnd}
 use Rattle.vlt_steps.specs.declared.end.RunEnd.TheVariants as end
 use Rattle.vlt_io.specs.declared.sink.Sink.{Ghosts}
 use Rattle.vlt_syntax.specs.Tree.{Tree}
-use Rattle.vlt_core.specs.Faults.{IsFirstFault}
+use Rattle.vlt_core.specs.Faults.{FlowFault, IsFirstFault}
 use Rattle.vlt_core.specs.View as core
 use Rattle.vlt_check.specs.Checks.{fault_of}
 use Rattle.vlt_core_laws.specs.Fit.{IsWellFormed}
@@ -19,6 +19,7 @@ use Rattle.vlt_verdict.specs.Verdicts as verdicts
 use Rattle.vlt_verdict.specs.Seen.{IsSeenAs}
 use Rattle.vlt_verdict.specs.declared.Verdict.{Verdict}
 use Rattle.vlt_verdict.specs.declared.Verdict.TheVariants as verdict
+use Rattle.cert_text_laws.specs.Texts.{IsProgramOfTexts}
 use Rattle.vaultc_core.specs.declared.status.TheConstants.{SINK_FAILED, NO_MEMORY}
 use Rattle.vaultc_core.specs.Finishes.{Finishes}
 use Rattle.vaultc_core.specs.Runs.{stop_line, end_line, IsReplyToProgram}
@@ -71,9 +72,14 @@ abbrev pub is_accepted : Verdict → Bool
 is_accepted (verdict.Accepted p) = true
 is_accepted _ = false
 
--- the fault is the first one of a program that breaks no rule on names and types
+-- the fault is the first one of a text's program, which breaks no rule on names and types
+pub record IsShowableIn (p : Program) (x : FlowFault) : Type 0 where
+  pub texts : IsProgramOfTexts p
+  pub well_formed : IsWellFormed p
+  pub first : IsFirstFault p x
+
 abbrev pub IsShowable : Verdict → Type 0
-IsShowable (verdict.Faulty p x) = IsWellFormed (core.program_of p) × IsFirstFault (core.program_of p) (fault_of x)
+IsShowable (verdict.Faulty p x) = IsShowableIn (core.program_of p) (fault_of x)
 IsShowable _ = Unit {0}
 
 abbrev pub shown_reply : Reply → lines.Reply

@@ -26,6 +26,7 @@ use crate::files::{
     read_module_files, read_run_files,
 };
 use crate::host_runs::run_host;
+use crate::judged::judge_text;
 use crate::lines::{USAGE, laid_out, not_had, not_had_in, refusal, verdict};
 use crate::load::load;
 use crate::modules::{NamedText, link_reply, module_reply};
@@ -47,7 +48,7 @@ use vlt_run_laws::{
 };
 use vlt_sound::accepted_programs_go_right;
 use vlt_syntax::Tree;
-use vlt_verdict::{Verdict, judge, programs_are_fit};
+use vlt_verdict::{Verdict, programs_are_fit};
 
 /// What `check` says of a text.
 fn reply_to_check(alloc: Global, bytes: &[u8]) -> Result<Reply, AllocError>
@@ -57,7 +58,7 @@ fn reply_to_check(alloc: Global, bytes: &[u8]) -> Result<Reply, AllocError>
 {
     match read_tree(alloc, bytes) {
         Ok(tree) => {
-            let judged = judge(alloc, &tree)?;
+            let judged = judge_text(alloc, &tree)?;
             verdict(alloc, bytes, &judged)
         }
         Err(error) => refusal(alloc, bytes, error),
@@ -73,7 +74,7 @@ fn reply_to_explain(alloc: Global, bytes: &[u8]) -> Result<Reply, AllocError>
     programs_are_fit();
     match read_tree(alloc, bytes) {
         Ok(tree) => {
-            let judged = judge(alloc, &tree)?;
+            let judged = judge_text(alloc, &tree)?;
             explained(alloc, bytes, &tree, &judged)
         }
         Err(error) => refusal(alloc, bytes, error),
@@ -100,7 +101,7 @@ fn reply_to_emit(alloc: Global, bytes: &[u8]) -> Result<Reply, AllocError>
 {
     match read_tree(alloc, bytes) {
         Ok(tree) => {
-            let judged = judge(alloc, &tree)?;
+            let judged = judge_text(alloc, &tree)?;
             compiled(alloc, bytes, &tree, &judged)
         }
         Err(error) => refusal(alloc, bytes, error),
@@ -181,9 +182,9 @@ fn run_text<K: Sink>(
         Ok(tree) => tree,
         Err(error) => return finish_reply(out, refusal(alloc, bytes, error)),
     };
-    match judge(alloc, &tree) {
+    match judge_text(alloc, &tree) {
         Ok(judged) => run_judged(alloc, caller, files, &tree, &judged, budgets, out),
-        Err(_) => NO_MEMORY,
+        Err(AllocError) => NO_MEMORY,
     }
 }
 

@@ -12,6 +12,7 @@ ghost use Rattle.vlt_core_laws.specs.Fit.{IsWellFormed};
 ghost use Rattle.vlt_syntax.specs.View.{tree_of};
 ghost use Rattle.vlt_verdict.specs.Verdicts as v;
 ghost use Rattle.vlt_verdict.specs.Seen.{IsFaultyFunction, IsSeenAs, IsTellable};
+ghost use Rattle.cert_text_laws.specs.Texts.{IsProgramOfTexts};
 ghost use Rattle.vaultc_core.specs.Verdicts.{IsExplained};
 ghost use Rattle.vaultc_core.specs.Shown.{IsShowable, shown_reply};
 
@@ -19,24 +20,30 @@ use crate::lines::verdict;
 use crate::reply::Reply;
 use crate::status::NOT_ACCEPTED;
 use crate::variables::variable_in;
+use cert_verify_laws::texts_can_be_searched;
 use std::alloc::{AllocError, Global};
 use vlt_core::{FlowFault, Program, Witness};
 use vlt_reports as reports;
+use vlt_rows::RowError;
 use vlt_syntax::Tree;
 use vlt_verdict::Verdict;
 use vlt_witness::witness;
 
-/// The paths of the first fault. Where its function is unfit for a search, that counts as want of memory.
+/// The paths of the first fault.
 fn paths_of(alloc: Global, program: &Program, fault: &FlowFault) -> Result<Witness, AllocError>
+    requires texts { IsProgramOfTexts (program_of program.now) }
     requires well_formed { IsWellFormed (program_of program.now) }
     requires first { IsFirstFault (program_of program.now) (fault_of fault.now) }
     ensures { IfOk result (λ x. IsWitness (program_of program.now) (fault_of fault.now)
         (choices_of x.first) (option_map choices_of x.second)) }
 {
+    texts_can_be_searched();
     match witness(alloc, program, fault) {
         Ok(Some(found)) => Ok(found),
         Ok(None) => unreachable!(),
-        Err(_) => Err(AllocError),
+        Err(RowError::Unfit) => unreachable!(),
+        Err(RowError::Refused(_)) => unreachable!(),
+        Err(RowError::Memory) => Err(AllocError),
     }
 }
 
@@ -50,6 +57,7 @@ fn shown_fault(
 ) -> Result<Reply, AllocError>
     requires size { length text.now < 2 ^ 32 - 1 }
     requires there { (f : Func) × IsFaultyFunction program.now fault f }
+    requires texts { IsProgramOfTexts (program_of program.now) }
     requires well_formed { IsWellFormed (program_of program.now) }
     requires first { IsFirstFault (program_of program.now) (fault_of fault) }
     ensures { IfOk result (λ r. (f : Func) → IsFaultyFunction program.now fault f →

@@ -29,6 +29,7 @@ mod explain;
 mod files;
 mod generated;
 mod host_runs;
+mod judged;
 mod kept;
 mod lines;
 mod load;

@@ -18,6 +18,7 @@ ghost use Rattle.vaultc_core.specs.Texts.{IsTextOf};
 
 use crate::emit::{accepted, emitted};
 use crate::generated::{Functions, Generated};
+use crate::judged::judge_text;
 use crate::kept::Kept;
 use crate::lines::{refusal, verdict};
 use crate::reply::Reply;
@@ -38,7 +39,7 @@ use vlt_run_laws::{accepted_programs_know_their_calls, kinded_programs_name_thei
 use vlt_sound::accepted_programs_go_right;
 use vlt_steps::{RunEnd, Stop};
 use vlt_syntax::Tree;
-use vlt_verdict::{Verdict, judge, programs_are_fit, texts_have_text_trees};
+use vlt_verdict::{Verdict, programs_are_fit, texts_have_text_trees};
 
 /// The most bytes that are told of what a run printed.
 const MOST_PRINTED: usize = 20;
@@ -184,9 +185,9 @@ fn load_text<K: Sink>(alloc: Global, made: &Generated, out: &mut K) -> u8
         Ok(tree) => tree,
         Err(error) => return finish_reply(out, refusal(alloc, text, error)),
     };
-    match judge(alloc, &tree) {
+    match judge_text(alloc, &tree) {
         Ok(judged) => load_judged(alloc, made, &tree, &judged, out),
-        Err(_) => NO_MEMORY,
+        Err(AllocError) => NO_MEMORY,
     }
 }
 

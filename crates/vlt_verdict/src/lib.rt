@@ -18,7 +18,7 @@ pub use fit_laws::{
     declared_externals_are_narrow, declared_sets_are_small, declared_structs_are_small,
     only_bodies_are_unfit, programs_are_fit, texts_have_text_trees,
 };
-use std::alloc::{AllocError, Global};
+use std::alloc::Global;
 use thiserror::Error;
 use vlt_check::{CheckError, accepted_has_no_fault, check};
 use vlt_check_laws::programs_are_judged;
@@ -50,13 +50,6 @@ pub enum JudgeError {
     Unfit,
     #[error("there was no memory")]
     Memory,
-}
-
-/// A program that is unfit for the check counts as want of memory.
-impl From<JudgeError> for AllocError {
-    fn from(_: JudgeError) -> AllocError {
-        AllocError
-    }
 }
 
 /// What a tree that a text has is as a program; `Unfit` where its program is (`HasUnfitProgram`).

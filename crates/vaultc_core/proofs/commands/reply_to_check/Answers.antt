@@ -4,6 +4,9 @@ use Rattle.vaultc_core.specs.Shown.{refusal_of}
 use Rattle.vaultc_core.proofs.Said.{refused_each, checked_said}
 use Rattle.vaultc_core.proofs.commands.reply_to_check.Goals as goal
 
+pub judge_text-requires-clause-text : goal.judge_text-requires-clause-text
+judge_text-requires-clause-text c = (c.args.bytes.now, c.in-Ok.ensures.ok)
+
 pub returns-in_ok-judged-in-Ok : goal.returns-in_ok-judged-in-Ok
 returns-in_ok-judged-in-Ok c =
     checked_said c.args.bytes.now (tree_of c.in-Ok.tree) c.in_ok-judged-in-Ok.judged c.verdict.result c.in-Ok.ensures.ok c.in_ok-judged-in-Ok.ensures.is c.verdict.ensures

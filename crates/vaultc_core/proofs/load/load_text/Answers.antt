@@ -7,6 +7,9 @@ use Rattle.vaultc_core.proofs.Finished.{finishes_as, reply_is}
 use Rattle.vaultc_core.proofs.Said.{refused_text}
 use Rattle.vaultc_core.proofs.load.load_text.Goals as goal
 
+pub judge_text-requires-clause-text : goal.judge_text-requires-clause-text
+judge_text-requires-clause-text g c = (c.as_slice-text.result.now, c.in-Ok.ensures.ok)
+
 pub returns-in-Err : goal.returns-in-Err
 returns-in-Err g c =
     let n = c.args.made.now.functions in

@@ -1,0 +1,28 @@
+//! From the tree of a text to its verdict.
+
+ghost use Rattle.std.specs.Prelude.{List, ℕ, IfOk};
+ghost use Rattle.vlt_syntax.specs.View.{tree_of};
+ghost use Rattle.vlt_verdict.specs.FitLaws.Fit.{IsTextTree};
+ghost use Rattle.vlt_verdict.specs.Seen.{IsTellable};
+ghost use Rattle.vaultc_core.specs.Shown.{IsJudged};
+ghost use Rattle.vaultc_core.specs.Texts.{IsTextOf};
+
+use cert_verify_laws::texts_are_judged;
+use std::alloc::{AllocError, Global};
+use vlt_syntax::Tree;
+use vlt_verdict::{JudgeError, Verdict, judge};
+
+/// What the tree of a text is as a program.
+pub fn judge_text(alloc: Global, tree: &Tree) -> Result<Verdict, AllocError>
+    requires text { (bytes : List ℕ) × IsTextOf (tree_of tree.now) bytes }
+    requires tree { IsTextTree (tree_of tree.now) }
+    ensures is { IfOk result (IsJudged (tree_of tree.now)) }
+    ensures tellable { IfOk result IsTellable }
+{
+    texts_are_judged();
+    match judge(alloc, tree) {
+        Ok(judged) => Ok(judged),
+        Err(JudgeError::Unfit) => unreachable!(),
+        Err(JudgeError::Memory) => Err(AllocError),
+    }
+}
