@@ -4,7 +4,7 @@ use Rattle.vlt_syntax.specs.Tree.{Tree}
 use Rattle.vlt_core.specs.Core.{Program}
 use Rattle.vlt_core.specs.Derives.{IsAccepted}
 use Rattle.vlt_kinds_types.specs.declared.names.found.Refusal.{Refusal}
-use Rattle.vlt_kinds.specs.Kinds.{Kinds}
+use Rattle.vlt_kinds_types.specs.Kinds.{Kinds}
 use Rattle.vlt_kinds.specs.Tables.{kinds_of, kinds_told}
 use Rattle.vlt_resolve.specs.Elaboration.{Told, broken, elaborated}
 use Rattle.vlt_resolve.specs.Programs.{with_kinds}

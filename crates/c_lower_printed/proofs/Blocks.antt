@@ -11,7 +11,7 @@ use Rattle.vlt_core.specs.Core.{Ty, bool, Form, Func, Program}
 use Rattle.vlt_core.specs.View.{stmts_made, arms_made}
 use Rattle.vlt_kinds_types.specs.declared.names.found.Refusal.{Refusal}
 use Rattle.vlt_kinds_types.specs.Names.Refusals.{least_from}
-use Rattle.vlt_kinds.specs.Kinds.{Kinds}
+use Rattle.vlt_kinds_types.specs.Kinds.{Kinds}
 use Rattle.vlt_resolve_exprs.specs.Scopes.{Scope, var_ty, scope_inside, scope_after}
 use Rattle.vlt_resolve_exprs.specs.Exprs.{wanted_refused, core_expr, var_number}
 use Rattle.vlt_resolve_stmts.specs.Around.{Around, inside_loop, inside_focus}

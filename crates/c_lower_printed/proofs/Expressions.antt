@@ -4,7 +4,7 @@ use Rattle.vlt_syntax.specs.Tree.{Tree}
 use Rattle.vlt_core.specs.Core as core
 use Rattle.vlt_core.specs.Core.{Expr, Program}
 use Rattle.vlt_core.specs.Proper.{AllPass}
-use Rattle.vlt_kinds.specs.Kinds.{Kinds}
+use Rattle.vlt_kinds_types.specs.Kinds.{Kinds}
 use Rattle.vlt_resolve_laws.specs.Elaborated.{IsElaborated}
 use Rattle.cert_rows.specs.Expressions as row
 use Rattle.cert_fit_laws.specs.Limits as limits

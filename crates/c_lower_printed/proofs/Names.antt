@@ -8,12 +8,12 @@ use Rattle.vlt_syntax.specs.Tree.{Block, Head, Decl, Tree}
 use Rattle.vlt_syntax.specs.Lists.{Each}
 use Rattle.vlt_core.specs.Core.{Name, Func, Program}
 use Rattle.vlt_core.specs.declared.rules.TheConstants as rule
-use Rattle.vlt_kinds_types.specs.Names.Names.{decl_refused, name_beyond_ascii}
+use Rattle.vlt_kinds_decls.specs.Names.{decl_refused, name_beyond_ascii}
 use Rattle.vlt_kinds_types.specs.Names.Globals.{Globals, globals_of}
 use Rattle.vlt_kinds_types.specs.Names.Refusals.{of_each}
 use Rattle.vlt_kinds_types.specs.Files.{File, file_of}
 use Rattle.vlt_kinds_heads.specs.Phase.{core_head, core_heads_in, core_heads}
-use Rattle.vlt_kinds.specs.Kinds.{Kinds}
+use Rattle.vlt_kinds_types.specs.Kinds.{Kinds}
 use Rattle.vlt_kinds.specs.Tables.{kinds_of}
 use Rattle.vlt_resolve_laws.specs.Elaborated.{IsElaborated}
 use Rattle.vlt_resolve_laws.specs.Made.{head_made, IsWalked}

@@ -4,7 +4,7 @@ ghost use Rattle.std.specs.Prelude.{◌≡◌, map, IfOk};
 ghost use Rattle.vlt_core.specs.View.{program_of, func_of};
 ghost use Rattle.vlt_core.specs.Kinded.{function_rows};
 ghost use Rattle.vlt_core.specs.KindedBodies as s;
-ghost use Rattle.vlt_kinds_decls.specs.Queries.Marks.{AreMarks};
+ghost use Rattle.vlt_kinds_queries.specs.Marks.{AreMarks};
 ghost use Rattle.cert_kinds_types.specs.Least.{least};
 ghost use Rattle.cert_kinds_blocks.specs.Scoped.{HasMarks, program_in, func_in};
 ghost use Rattle.cert_kinds.specs.Tallies.{tally_of, tallied};

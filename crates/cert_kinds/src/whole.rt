@@ -3,7 +3,7 @@
 ghost use Rattle.std.specs.Prelude.{◌≡◌, ◌≤◌, ◌^◌, length, IfOk};
 ghost use Rattle.vlt_core.specs.View.{program_of};
 ghost use Rattle.vlt_core.specs.Kinded as s;
-ghost use Rattle.vlt_kinds_decls.specs.Queries.Marks.{AreMarks};
+ghost use Rattle.vlt_kinds_queries.specs.Marks.{AreMarks};
 ghost use Rattle.cert_kinds.specs.Tallies.{tally_of, tallied, clean};
 ghost use Rattle.cert_kinds.specs.Outcomes.{IsAnswered};
 ghost use Rattle.cert_kinds.specs.declared.whole.KindedError.TheVariants.{Memory};

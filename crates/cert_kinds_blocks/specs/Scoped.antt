@@ -1,7 +1,7 @@
 -- The plain program and function of a scope.
 use Rattle.vlt_core.specs.Core.{Func, Program}
 use Rattle.vlt_core.specs.View.{program_of, func_of}
-use Rattle.vlt_kinds_decls.specs.Queries.Marks.{AreMarks}
+use Rattle.vlt_kinds_queries.specs.Marks.{AreMarks}
 use Rattle.cert_kinds_blocks.specs.declared.scope.Scope.{Scope}
 
 abbrev pub program_in : Scope → Program

@@ -16,7 +16,7 @@ use cert_kinds_heads::parameters;
 use cert_kinds_types::lesser;
 use vlt_base::{KeyId, StateSet, TypeId};
 use vlt_core::{Expr, Func, Operand, Program, Ty, VarDecl, rules};
-use vlt_kinds_decls::lies_within;
+use vlt_kinds_queries::lies_within;
 
 /// The type of a variable or of a field that is handed over.
 fn expr_given<'a>(p: &'a Program, f: &'a Func, e: &Expr) -> Option<Seen<'a>>

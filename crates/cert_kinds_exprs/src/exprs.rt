@@ -20,7 +20,7 @@ use crate::seen::{Keys, Seen, below, is_owning, plain, same_object, same_ty};
 use cert_kinds_types::{are_below, decl, fields, is_declared, lesser, states_broken, unless};
 use vlt_base::{Boxed, Items, KeyId, StateSet, TypeId, VarId};
 use vlt_core::{Expr, FieldDecl, Func, Operand, Program, Ty, TypeDecl, rules};
-use vlt_kinds_decls::lies_within;
+use vlt_kinds_queries::lies_within;
 use vlt_ops::{Op, Takes, row};
 
 /// The type of a variable, none where it is out of range.

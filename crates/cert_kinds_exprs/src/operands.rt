@@ -19,7 +19,7 @@ use crate::wanted::Wanted;
 use cert_kinds_types::{declared_states_broken, lesser, unless};
 use vlt_base::{Items, StateSet, TypeId, VarId};
 use vlt_core::{Expr, Func, Operand, Program, rules};
-use vlt_kinds_decls::lies_within;
+use vlt_kinds_queries::lies_within;
 
 /// Whether a target of the first type takes an owning value of the second.
 fn fits_owning(wanted: Seen, given: Seen) -> bool

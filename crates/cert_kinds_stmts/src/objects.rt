@@ -6,7 +6,7 @@ ghost use Rattle.vlt_core.specs.View.{program_of, func_of, ty_of, keys_of, case_
 ghost use Rattle.vlt_core.specs.Lookups as lookups;
 ghost use Rattle.vlt_core.specs.Types as types;
 ghost use Rattle.vlt_core.specs.KindedStatements as s;
-ghost use Rattle.vlt_kinds_decls.specs.Queries.Marks as m;
+ghost use Rattle.vlt_kinds_queries.specs.Marks as m;
 ghost use Rattle.cert_kinds_types.specs.Least.{least};
 ghost use Rattle.cert_kinds_exprs.specs.Scopes.{ids_of};
 ghost use Rattle.cert_kinds_stmts.specs.Objects as z;

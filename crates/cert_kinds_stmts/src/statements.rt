@@ -10,7 +10,7 @@ ghost use Rattle.vlt_core.specs.KindedHeads as heads;
 ghost use Rattle.vlt_core.specs.KindedStatements as s;
 ghost use Rattle.vlt_core.specs.KindedOperands as operands;
 ghost use Rattle.vlt_core.specs.declared.rules.TheConstants as rule;
-ghost use Rattle.vlt_kinds_decls.specs.Queries.Marks as m;
+ghost use Rattle.vlt_kinds_queries.specs.Marks as m;
 ghost use Rattle.cert_kinds_types.specs.Least.{least};
 ghost use Rattle.cert_kinds_exprs.specs.Scopes.{ids_of};
 ghost use Rattle.cert_kinds_exprs.specs.Seen.{seen_some};

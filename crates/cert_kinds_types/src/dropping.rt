@@ -6,15 +6,15 @@ ghost use Rattle.vlt_core.specs.View as view;
 ghost use Rattle.vlt_core.specs.View.{program_of};
 ghost use Rattle.vlt_core.specs.Lookups as l;
 ghost use Rattle.vlt_core.specs.Types as t;
-ghost use Rattle.vlt_kinds_decls.specs.Queries.Marks as m;
-ghost use Rattle.vlt_kinds_decls.specs.Queries.Rounds as r;
+ghost use Rattle.vlt_kinds_queries.specs.Marks as m;
+ghost use Rattle.vlt_kinds_queries.specs.Rounds as r;
 
 use crate::declared::{is_keyed, is_struct, is_variant};
 use crate::states::is_released;
 use std::alloc::{AllocError, Global};
 use vlt_base::{Items, TypeId};
 use vlt_core::{CaseDecl, FieldDecl, Program, Ty, TypeDecl};
-use vlt_kinds_decls::is_marked;
+use vlt_kinds_queries::is_marked;
 
 fn part_type(ty: &Ty) -> TypeId
     ensures { result.0 ≡ t.part_type (view.ty_of ty.now) }

@@ -14,7 +14,7 @@ use crate::declared::{decl, has_set_of, is_declared};
 use crate::lowest::unless;
 use vlt_base::{StateSet, TypeId};
 use vlt_core::{Program, TypeDecl, rules};
-use vlt_kinds_decls::lies_within;
+use vlt_kinds_queries::lies_within;
 
 fn stays_below(states: StateSet, count: usize, state: u8) -> bool
     ensures { result ≡ (not (has_state states state) || nat_lt state count) }

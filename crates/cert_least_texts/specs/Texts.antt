@@ -7,7 +7,7 @@ use Rattle.vlt_core.specs.Derives.{IsAccepted}
 use Rattle.vlt_core.specs.View.{program_of}
 use Rattle.vlt_core.specs.declared.notes.Annotation.{Annotation}
 use Rattle.vlt_core.specs.declared.program.Program.{Program as CodeProgram}
-use Rattle.vlt_kinds.specs.Kinds.{Kinds}
+use Rattle.vlt_kinds_types.specs.Kinds.{Kinds}
 use Rattle.vlt_resolve_laws.specs.Elaborated.{IsElaborated}
 use Rattle.c_lower.specs.Lowering.{lowered}
 use Rattle.cert_rows.specs.Parts.{list}

@@ -20,7 +20,7 @@ use Rattle.vlt_kinds_heads.specs.Keys.{Keys, no_facts, facts_of, keys_of}
 use Rattle.vlt_kinds_heads.specs.Heads.{first_name, key_states_refused, entry_key_refused, entry_states_refused, entry_refused}
 use Rattle.vlt_kinds_heads.specs.Phase.{key_number, typed_states, core_entry}
 use Rattle.vlt_kinds_heads.specs.declared.facts.Typing.{Typing}
-use Rattle.vlt_kinds.specs.Kinds.{Kinds}
+use Rattle.vlt_kinds_types.specs.Kinds.{Kinds}
 use Rattle.vlt_resolve_laws.specs.KindsLaws.Shapes.{core_shape, Describes, HasHeaders}
 use Rattle.vlt_resolve_laws.specs.Made.{head_made}
 use Rattle.vlt_resolve_laws.specs.Elaborated.{IsElaborated}

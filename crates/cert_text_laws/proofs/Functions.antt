@@ -13,14 +13,14 @@ use Rattle.vlt_syntax.specs.Grammar.{IsBlock, IsDecl, language}
 use Rattle.vlt_core.specs.Core as core
 use Rattle.vlt_core.specs.Core.{Func}
 use Rattle.vlt_core.specs.declared.rules.TheConstants as rule
-use Rattle.vlt_kinds_types.specs.Names.Names.{decl_refused, name_beyond_ascii}
+use Rattle.vlt_kinds_decls.specs.Names.{decl_refused, name_beyond_ascii}
 use Rattle.vlt_kinds_types.specs.Names.Globals.{Globals}
 use Rattle.vlt_kinds_types.specs.Names.Refusals.{of_each, least}
 use Rattle.vlt_kinds_types.specs.Files.{File}
 use Rattle.vlt_kinds_heads.specs.Places.{clause_in, entry_key}
 use Rattle.vlt_kinds_heads.specs.Keys.{Keys, facts_of, keys_of}
 use Rattle.vlt_kinds_heads.specs.Phase.{states_named, typed_states, core_entry_in, core_entry, core_head, core_heads_in}
-use Rattle.vlt_kinds.specs.Kinds.{Kinds}
+use Rattle.vlt_kinds_types.specs.Kinds.{Kinds}
 use Rattle.vlt_resolve_laws.proofs.OfKindsLaws.Empty.{no_left, no_right, not_broken}
 use Rattle.vlt_resolve.specs.Walk.Walk.{then_do, walk_stmts}
 use Rattle.vlt_resolve.specs.Elaboration as elab

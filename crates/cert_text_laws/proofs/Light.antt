@@ -9,7 +9,7 @@ use Rattle.vlt_syntax.specs.Spelling.{named_then, expr_then, init_then, owner_th
 use Rattle.vlt_core.specs.Core as core
 use Rattle.vlt_core.specs.Core.{Ty, Operand, Form, Func}
 use Rattle.vlt_core.specs.Lookups.{is_owning}
-use Rattle.vlt_kinds.specs.Kinds.{Kinds, head_named, function_named}
+use Rattle.vlt_kinds_types.specs.Kinds.{Kinds, head_named, function_named}
 use Rattle.vlt_resolve_exprs.specs.Scopes.{Scope, var_ty, more_var}
 use Rattle.vlt_resolve_exprs.specs.Exprs.{type_of, core_expr, var_number, number_of}
 use Rattle.vlt_resolve_exprs.specs.Operands.{variable_in, operand_for}

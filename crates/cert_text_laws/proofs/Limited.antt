@@ -7,7 +7,7 @@ use Rattle.vlt_core.specs.Core.{done, Func, Program}
 use Rattle.vlt_core.specs.Proper.{HasProperBodies}
 use Rattle.vlt_kinds_types.specs.Names.Globals.{globals_of}
 use Rattle.vlt_kinds_types.specs.Files.{file_of}
-use Rattle.vlt_kinds.specs.Kinds.{Kinds}
+use Rattle.vlt_kinds_types.specs.Kinds.{Kinds}
 use Rattle.vlt_kinds.specs.Tables.{kinds_of}
 use Rattle.vlt_resolve.specs.Elaboration.{is_main, elaborated}
 use Rattle.vlt_resolve_laws.specs.Elaborated.{IsElaborated}

@@ -8,7 +8,7 @@ use Rattle.vlt_syntax.specs.Lists.{further_then, listed_then, enclosed_then}
 use Rattle.vlt_syntax.specs.Spelling.{name_then, expr_then, init_then}
 use Rattle.vlt_core.specs.Core as core
 use Rattle.vlt_core.specs.Core.{States, Ty}
-use Rattle.vlt_kinds.specs.Kinds.{Kinds}
+use Rattle.vlt_kinds_types.specs.Kinds.{Kinds}
 use Rattle.vlt_resolve_exprs.specs.Scopes.{Scope}
 use Rattle.vlt_resolve_exprs.specs.Exprs.{type_of, core_expr}
 use Rattle.vlt_resolve_exprs.specs.Operands.{variable_in, object_operand, operand_for, core_operand, core_operands}

@@ -6,7 +6,7 @@ use Rattle.std.proofs.lemmas.Bool.{lt-ltb, not-false}
 use Rattle.vlt_syntax.specs.Tree.{Decl}
 use Rattle.vlt_core.specs.Core.{Func}
 use Rattle.vlt_core.specs.declared.rules.TheConstants as rule
-use Rattle.vlt_kinds_types.specs.Names.Names.{no_main, names_refused}
+use Rattle.vlt_kinds_decls.specs.Names.{no_main, names_refused}
 use Rattle.vlt_kinds_types.specs.Names.Refusals.{of_each}
 use Rattle.vlt_kinds_types.specs.Files.{File}
 use Rattle.vlt_kinds_heads.specs.Phase.{core_heads_in}

@@ -10,7 +10,7 @@ use Rattle.vlt_syntax.specs.Spelling.{spelling}
 use Rattle.vlt_syntax.specs.Grammar as grammar
 use Rattle.vlt_core.specs.Core.{Program}
 use Rattle.vlt_core.specs.Proper.{AllPass}
-use Rattle.vlt_kinds.specs.Kinds.{Kinds}
+use Rattle.vlt_kinds_types.specs.Kinds.{Kinds}
 use Rattle.vlt_resolve_exprs.specs.Scopes.{Scope}
 use Rattle.vlt_resolve_exprs.specs.Exprs.{core_expr}
 use Rattle.vlt_resolve_laws.specs.Elaborated.{IsElaborated}

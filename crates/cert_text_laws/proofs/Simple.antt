@@ -4,7 +4,7 @@ use Rattle.vlt_syntax.specs.Tree as s
 use Rattle.vlt_syntax.specs.Tree.{Name, Right, Stmt}
 use Rattle.vlt_core.specs.Core as core
 use Rattle.vlt_core.specs.Core.{Ty, Operand, Form, Func}
-use Rattle.vlt_kinds.specs.Kinds.{Kinds, head_named, function_named}
+use Rattle.vlt_kinds_types.specs.Kinds.{Kinds, head_named, function_named}
 use Rattle.vlt_resolve_exprs.specs.Scopes.{Scope, var_ty}
 use Rattle.vlt_resolve_exprs.specs.Exprs.{var_number, number_of}
 use Rattle.vlt_resolve_calls.specs.Targets.{Target, core_value}

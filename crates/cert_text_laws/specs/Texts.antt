@@ -9,7 +9,7 @@ use Rattle.vlt_syntax.specs.Lists.{Each}
 use Rattle.vlt_syntax.specs.Spelling.{decl_then, spelling}
 use Rattle.vlt_syntax_laws.specs.Numbers.{HasNumbers}
 use Rattle.vlt_core.specs.Core.{Func, Program}
-use Rattle.vlt_kinds.specs.Kinds.{Kinds}
+use Rattle.vlt_kinds_types.specs.Kinds.{Kinds}
 use Rattle.vlt_resolve_laws.specs.Elaborated.{IsElaborated}
 use Rattle.cert_format.specs.Bodies.{count_list}
 use Rattle.cert_fit_laws.specs.Limits.{IsLimitedProgram}

@@ -5,7 +5,7 @@ use Rattle.vlt_syntax.specs.Lists.{Each}
 use Rattle.vlt_core.specs.Core as core
 use Rattle.vlt_core.specs.Core.{States, Ty, owning, VarDecl, FieldDecl, CaseDecl, TypeDecl, a_struct, a_variant, Entry, Func, Program}
 use Rattle.vlt_core.specs.Lookups.{owning_states_in, release_in, fields_in, cases_in}
-use Rattle.vlt_kinds.specs.Kinds.{Kinds}
+use Rattle.vlt_kinds_types.specs.Kinds.{Kinds}
 use Rattle.vlt_resolve_exprs.specs.Scopes.{Scope}
 use Rattle.vlt_resolve.specs.Elaboration.{body_scope, body_around, stmts_in}
 use Rattle.vlt_resolve_laws.specs.Elaborated.{IsElaborated}

@@ -10,7 +10,7 @@ use Rattle.vlt_core.specs.Lookups.{is_owning, VariantOf, variant_in}
 use Rattle.vlt_core.specs.View.{stmts_made, arms_made}
 use Rattle.vlt_kinds_types.specs.declared.names.found.Refusal.{Refusal}
 use Rattle.vlt_kinds_types.specs.Names.Refusals.{least_from}
-use Rattle.vlt_kinds.specs.Kinds.{Kinds, head_named, function_named}
+use Rattle.vlt_kinds_types.specs.Kinds.{Kinds, head_named, function_named}
 use Rattle.vlt_resolve_exprs.specs.Types.{then_with, ty_under}
 use Rattle.vlt_resolve_exprs.specs.Scopes.{Scope, ty_in, var_named, var_ty, scope_inside, scope_after}
 use Rattle.vlt_resolve_exprs.specs.Exprs.{wanted_refused, type_of, core_expr, var_number, number_of, fields_of}

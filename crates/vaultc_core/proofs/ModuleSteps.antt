@@ -12,7 +12,7 @@ use Rattle.vlt_syntax.specs.Tree.{Tree}
 use Rattle.vlt_syntax.specs.View.{tree_of}
 use Rattle.vlt_core.specs.Core.{Program}
 use Rattle.vlt_kinds_types.specs.declared.names.found.Refusal.{Refusal as Refused}
-use Rattle.vlt_kinds.specs.Kinds.{Kinds}
+use Rattle.vlt_kinds_types.specs.Kinds.{Kinds}
 use Rattle.vlt_iface.specs.View.{View}
 use Rattle.vlt_iface.specs.Told.{Told, view_told, joined_told}
 use Rattle.vlt_verdict.specs.Verdicts.{Verdict, refused, faulty, accepted}

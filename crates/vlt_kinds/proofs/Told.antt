@@ -4,7 +4,7 @@ use Rattle.vlt_syntax.specs.Tree.{Decl}
 use Rattle.vlt_core.specs.Core.{TypeDecl, Func}
 use Rattle.vlt_kinds_types.specs.declared.names.found.Refusal.{Refusal}
 use Rattle.vlt_kinds_types.specs.Names.Refusals.{least}
-use Rattle.vlt_kinds_types.specs.Names.Names.{names_refused}
+use Rattle.vlt_kinds_decls.specs.Names.{names_refused}
 use Rattle.vlt_kinds_types.specs.Files.{File, file_of}
 use Rattle.vlt_kinds_decls.specs.Decls.{types_refused}
 use Rattle.vlt_kinds_decls.specs.Made.{core_types}

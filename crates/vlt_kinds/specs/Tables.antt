@@ -4,12 +4,12 @@ use Rattle.vlt_base.specs.Refusals as refusals
 use Rattle.vlt_syntax.specs.Tree.{Decl, Tree}
 use Rattle.vlt_kinds_types.specs.declared.names.found.Refusal.{Refusal}
 use Rattle.vlt_kinds_types.specs.Names.Refusals.{least}
-use Rattle.vlt_kinds_types.specs.Names.Names.{names_refused}
+use Rattle.vlt_kinds_decls.specs.Names.{names_refused}
 use Rattle.vlt_kinds_types.specs.Files.{file_of}
 use Rattle.vlt_kinds_decls.specs.Decls.{types_refused}
 use Rattle.vlt_kinds_decls.specs.Made.{core_types}
 use Rattle.vlt_kinds_heads.specs.Phase.{heads_refused, core_heads}
-use Rattle.vlt_kinds.specs.Kinds.{Kinds}
+use Rattle.vlt_kinds_types.specs.Kinds.{Kinds}
 use Rattle.vlt_kinds.specs.declared.error.KindError.{KindError}
 use Rattle.vlt_kinds.specs.declared.error.KindError.TheVariants.{Rule}
 

@@ -1,5 +1,5 @@
 //! Kinds: a tree in, what it declares as core declarations or the least refusal of the rules on names, types and heads out.
-//! Read `specs/Kinds.antt` first, then `Tables`.
+//! Read `vlt_kinds_types/specs/Kinds.antt` first, then `specs/Tables.antt`.
 //! Used by: the rules on bodies.
 #![tactic(auto)]
 
@@ -7,16 +7,14 @@ ghost use Rattle.std.specs.Prelude.{◌≡◌, Ok, Err, IfOk};
 ghost use Rattle.vlt_syntax.specs.View.{tree_of};
 ghost use Rattle.vlt_syntax.specs.Grammar.{IsTree, language};
 ghost use Rattle.vlt_kinds.specs.Tables.{kinds_told, OnRefused};
-ghost use Rattle.vlt_kinds.specs.Seen.{kinds_seen};
+ghost use Rattle.vlt_kinds_types.specs.Seen.{kinds_seen};
 
 mod error;
-mod kinds;
-mod lookups;
 pub mod phases;
 
 pub use error::KindError;
-pub use kinds::Kinds;
 use std::alloc::Global;
+use vlt_kinds_types::Kinds;
 use vlt_syntax::Tree;
 
 /// What a tree of the language declares, by the rules on names, on types and on heads.

@@ -6,26 +6,27 @@ ghost use Rattle.vlt_syntax.specs.Lists.{Each};
 ghost use Rattle.vlt_syntax.specs.Grammar.{IsDecl, language};
 ghost use Rattle.vlt_core.specs.View as core_view;
 ghost use Rattle.vlt_kinds_types.specs.Names.Refusals.{least};
-ghost use Rattle.vlt_kinds_types.specs.Names.Names.{names_refused};
+ghost use Rattle.vlt_kinds_decls.specs.Names.{names_refused};
 ghost use Rattle.vlt_kinds_types.specs.Files as f;
-ghost use Rattle.vlt_kinds_types.specs.Seen.{file_seen};
+ghost use Rattle.vlt_kinds_types.specs.Seen.{file_seen, kinds_seen};
 ghost use Rattle.vlt_kinds_decls.specs.Decls.{types_refused};
 ghost use Rattle.vlt_kinds_decls.specs.Made.{core_types};
-ghost use Rattle.vlt_kinds_decls.specs.Known.{HasKnownSet};
+ghost use Rattle.vlt_kinds_queries.specs.Known.{HasKnownSet};
 ghost use Rattle.vlt_kinds_heads.specs.Phase.{heads_refused, core_heads};
-ghost use Rattle.vlt_kinds_decls.specs.Queries.Types.{program_with};
-ghost use Rattle.vlt_kinds_decls.specs.Queries.Marks.{AreMarks};
+ghost use Rattle.vlt_kinds_queries.specs.Types.{program_with};
+ghost use Rattle.vlt_kinds_queries.specs.Marks.{AreMarks};
 ghost use Rattle.vlt_kinds.specs.Tables.{names_told, OnRefused};
-ghost use Rattle.vlt_kinds.specs.Seen.{kinds_seen};
 
 use crate::error::KindError;
-use crate::kinds::Kinds;
+use vlt_kinds_types::Kinds;
 use std::alloc::Global;
 use vlt_base::Items;
 use vlt_core::{Func, TypeDecl};
-use vlt_kinds_decls::{Declared, check_types, core_types};
+use vlt_kinds_decls::{check_types, core_types};
+use vlt_kinds_queries::Declared;
 use vlt_kinds_heads::check_heads;
-use vlt_kinds_types::{File, LeastRefusal, check_names, file_of};
+use vlt_kinds_types::{File, LeastRefusal, file_of};
+use vlt_kinds_decls::check_names;
 use vlt_syntax::Decl;
 
 /// Nothing, unless something was refused.

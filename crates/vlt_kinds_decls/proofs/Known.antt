@@ -2,7 +2,7 @@
 use Rattle.std.proofs.Common.{◌≡◌, ℕ, List, [], ◌∷◌, ◌++◌, All}
 use Rattle.std.proofs.lemmas.List.Elements.{All-push}
 use Rattle.vlt_core.specs.declared.program.TypeDecl.{TypeDecl}
-use Rattle.vlt_kinds_decls.specs.Known.{HasKnownSet}
+use Rattle.vlt_kinds_queries.specs.Known.{HasKnownSet}
 
 pub known_more : (n : ℕ) (old new : List TypeDecl) (d : TypeDecl) → new ≡ old ++ d ∷ [] → All (HasKnownSet n) old → HasKnownSet n d
     → All (HasKnownSet n) new

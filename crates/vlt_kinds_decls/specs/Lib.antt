@@ -1,4 +1,3 @@
 pub mod Decls
 pub mod Made
-pub mod Known
-pub mod Queries
+pub mod Names

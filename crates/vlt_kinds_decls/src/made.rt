@@ -11,7 +11,7 @@ ghost use Rattle.vlt_kinds_types.specs.Seen.{file_seen, states_seen};
 ghost use Rattle.vlt_kinds_types.specs.Types as t;
 ghost use Rattle.vlt_kinds_types.specs.Files as f;
 ghost use Rattle.vlt_kinds_decls.specs.Made as m;
-ghost use Rattle.vlt_kinds_decls.specs.Known.{HasKnownSet};
+ghost use Rattle.vlt_kinds_queries.specs.Known.{HasKnownSet};
 ghost use Rattle.std.specs.Option.{ForSome};
 
 use crate::header::{header_position, wanted_of};

@@ -9,7 +9,7 @@ use Rattle.vlt_syntax.specs.declared.tree.SetState.{SetState}
 use Rattle.vlt_core.specs.View.{link_of}
 use Rattle.vlt_core.specs.declared.program.Link.{Link}
 use Rattle.vlt_kinds_types.specs.Files.{with_text, texts_after, state_texts, number_of, links_to, links_after}
-use Rattle.vlt_kinds_types.specs.Small.{IsSmall}
+use Rattle.vlt_kinds_queries.specs.Small.{IsSmall}
 
 -- one state more is one name more, or none
 one_more : (known : List (List ℕ)) (t : List ℕ) (b : Bool)

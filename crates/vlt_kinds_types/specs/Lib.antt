@@ -1,5 +1,5 @@
-pub mod Small
 pub mod Files
 pub mod Types
 pub mod Seen
 pub mod Names
+pub mod Kinds

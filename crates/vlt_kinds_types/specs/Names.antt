@@ -1,4 +1,3 @@
 pub mod Refusals
 pub mod Globals
-pub mod Names
 pub mod Along

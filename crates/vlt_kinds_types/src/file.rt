@@ -1,6 +1,6 @@
 //! What a file declares.
 
-ghost use Rattle.vlt_kinds_types.specs.Small.{AreSmallSets};
+ghost use Rattle.vlt_kinds_queries.specs.Small.{AreSmallSets};
 
 use crate::names::Globals;
 use crate::shapes::Shape;

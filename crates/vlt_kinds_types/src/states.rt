@@ -1,6 +1,6 @@
 //! The names of a type's states.
 
-ghost use Rattle.vlt_kinds_types.specs.Small.{AreSmallNames};
+ghost use Rattle.vlt_kinds_queries.specs.Small.{AreSmallNames};
 
 use vlt_base::Items;
 

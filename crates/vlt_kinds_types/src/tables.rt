@@ -11,7 +11,7 @@ ghost use Rattle.vlt_kinds_types.specs.Names.Globals.{names_seen, globals_of};
 ghost use Rattle.vlt_kinds_types.specs.Names.Refusals.{of_each};
 ghost use Rattle.vlt_kinds_types.specs.Files as f;
 ghost use Rattle.vlt_kinds_types.specs.Seen.{file_seen};
-ghost use Rattle.vlt_kinds_types.specs.Small.{IsSmall, AreSmallSets, IsSmallSet};
+ghost use Rattle.vlt_kinds_queries.specs.Small.{IsSmall, AreSmallSets, IsSmallSet};
 
 use crate::file::File;
 use crate::listed::position_of;

@@ -9,8 +9,8 @@ use Rattle.vlt_syntax.specs.Tree.{Name, Decl}
 use Rattle.vlt_syntax.specs.Lists.{Each}
 use Rattle.vlt_core.specs.declared.rules.TheConstants as rule
 use Rattle.vlt_kinds_types.specs.declared.names.globals.Entity.{Entity}
-use Rattle.vlt_kinds_types.specs.Names.Globals.{Globals, is_global, decl_name, Counts, global_of, counts_after, declared_again, no_counts}
-use Rattle.vlt_kinds_types.specs.Names.Names as nam
+use Rattle.vlt_kinds_types.specs.Names.Globals.{Globals, is_global, decl_name, Counts, global_of, counts_after, declared_again, no_counts, names_again}
+use Rattle.vlt_kinds_decls.specs.Names as nam
 use Rattle.vlt_kinds_types.specs.Names.Refusals.{refuse}
 use Rattle.vlt_iface.specs.View.{gives, with_given, others, view_decls}
 use Rattle.vlt_link_laws.proofs.OfMoves.Empty.{cons_not_nil}
@@ -102,12 +102,12 @@ none_named : (ns : List Name) → refuse rule.DECLARED_AGAIN ns ≡ [] → ns �
 none_named [] e = refl
 none_named (n ∷ ns) e = absurd (cons_not_nil _ _ e)
 
-pub distinct_of : (ds : List Decl) → nam.names_again ds ≡ [] → Distinct (name_texts ds)
-unfolding nam.names_again
+pub distinct_of : (ds : List Decl) → names_again ds ≡ [] → Distinct (name_texts ds)
+unfolding names_again
 distinct_of ds none = (never_again [] no_counts ds (none_named (declared_again [] no_counts ds) none)).1
 
-of_distinct : (ds : List Decl) → Distinct (name_texts ds) → nam.names_again ds ≡ []
-unfolding nam.names_again
+of_distinct : (ds : List Decl) → Distinct (name_texts ds) → names_again ds ≡ []
+unfolding names_again
 of_distinct ds d = ap (refuse rule.DECLARED_AGAIN) (once [] no_counts ds (all_unknown (name_texts ds)) d)
 
 -- ---- texts of views
@@ -160,7 +160,7 @@ apart_texts (d ∷ ds) gs all = (inner gs all.0, apart_texts ds gs all.1)
 
 -- of the joined declarations, as both views and the others of the modules are
 pub joined_once : (is fs gs : List Decl) → view_decls is (fs ++ gs) ≡ with_given is (fs ++ gs) ++ (others is [] fs ++ others is fs gs) → others is fs gs ≡ others is [] gs → AreApart (others is [] fs) (others is fs gs) →
-    nam.names_again (view_decls is fs) ≡ [] → nam.names_again (view_decls is gs) ≡ [] → nam.names_again (view_decls is (fs ++ gs)) ≡ []
+    names_again (view_decls is fs) ≡ [] → names_again (view_decls is gs) ≡ [] → names_again (view_decls is (fs ++ gs)) ≡ []
 joined_once is fs gs split rest apart first second =
     of_distinct (view_decls is (fs ++ gs))
     (subst Distinct (sym texts) (distinct_three (name_texts is) (name_texts (others is [] fs)) (name_texts (others is fs gs))

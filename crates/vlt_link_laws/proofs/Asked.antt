@@ -4,7 +4,7 @@ use Rattle.vlt_base.specs.Limits.{limit_of}
 use Rattle.vlt_base.specs.declared.limits.TheConstants.{DECLARATIONS}
 use Rattle.vlt_syntax.specs.Tree.{Tree}
 use Rattle.vlt_syntax.specs.Grammar.{IsTree, language}
-use Rattle.vlt_kinds.specs.Kinds.{Kinds}
+use Rattle.vlt_kinds_types.specs.Kinds.{Kinds}
 use Rattle.vlt_core.specs.Core.{Program}
 use Rattle.vlt_verdict.specs.FitLaws.Fit.{IsJudgeable, IsTextTree}
 use Rattle.vlt_iface.specs.View.{View, viewed, joined}

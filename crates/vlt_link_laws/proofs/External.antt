@@ -14,7 +14,7 @@ use Rattle.vlt_kinds_types.specs.Names.Refusals.{refuse_if, of_each}
 use Rattle.vlt_kinds_types.specs.Names.Along.{along}
 use Rattle.vlt_kinds_types.specs.Files.{shape_named}
 use Rattle.vlt_kinds_types.specs.Types.{is_variant, sort_in, shape_in, header_in, ty_place, ty_refused, named_refused, owned_refused}
-use Rattle.vlt_kinds.specs.Kinds.{Kinds}
+use Rattle.vlt_kinds_types.specs.Kinds.{Kinds}
 use Rattle.vlt_kinds_heads.specs.Places.{clause_in, entry_key, is_fresh}
 use Rattle.vlt_kinds_heads.specs.Keys.{Keys, keys_of}
 use Rattle.vlt_kinds_heads.specs.Heads.{types_refused, result_type_refused, parameter_refused, head_refused}

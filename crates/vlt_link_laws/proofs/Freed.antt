@@ -11,7 +11,7 @@ use Rattle.vlt_syntax.specs.Grammar.{Bounds, IsSomeArm, IsStmt, IsBlock, IsIf, I
 use Rattle.vlt_core.specs.Core.{TypeDecl}
 use Rattle.vlt_core.specs.declared.rules.TheConstants as rule
 use Rattle.vlt_kinds_types.specs.Names.Globals.{Globals, is_global, globals_of, decl_name, Counts, global_of, counts_after, no_counts}
-use Rattle.vlt_kinds_types.specs.Names.Names as nam
+use Rattle.vlt_kinds_decls.specs.Names as nam
 use Rattle.vlt_kinds_types.specs.Names.Refusals.{refuse, of_each}
 use Rattle.vlt_kinds_types.specs.Names.Along.{along}
 use Rattle.vlt_kinds_types.specs.Files.{File, shape_named}
@@ -24,7 +24,7 @@ use Rattle.vlt_kinds_heads.specs.Keys.{Keys, places_after, keys_after}
 use Rattle.vlt_kinds_heads.specs.Bounds.{is_key, is_parameter, is_taken, variable_refused, after_bound, variables_refused}
 use Rattle.vlt_kinds_heads.specs.Heads.{Seen, is_repeated, with_name, name_refused, names_refused, types_refused, clause_again, typings_refused, result_refused, entry_refused, head_refused_by, head_refused}
 use Rattle.vlt_kinds_heads.specs.Phase.{extern_refused, heads_refused_in}
-use Rattle.vlt_kinds.specs.Kinds.{Kinds}
+use Rattle.vlt_kinds_types.specs.Kinds.{Kinds}
 use Rattle.vlt_kinds.specs.Tables.{kinds_of}
 use Rattle.vlt_resolve.specs.Elaboration.{stmts_in}
 use Rattle.vlt_iface.specs.View.{others, view_decls}

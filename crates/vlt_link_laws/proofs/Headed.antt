@@ -11,7 +11,7 @@ use Rattle.vlt_kinds_decls.specs.Made.{core_types}
 use Rattle.vlt_kinds_heads.specs.Keys.{keys_of}
 use Rattle.vlt_kinds_heads.specs.Heads.{types_refused, head_refused_by, head_refused}
 use Rattle.vlt_kinds_heads.specs.Phase.{extern_refused, heads_refused_in, core_head, core_heads_in, core_heads}
-use Rattle.vlt_kinds.specs.Kinds.{Kinds}
+use Rattle.vlt_kinds_types.specs.Kinds.{Kinds}
 use Rattle.vlt_link_laws.specs.Moves.Joins.{Joins, befores, afters, is_function, moves_of}
 use Rattle.vlt_link_laws.specs.Moves.Sees.{Sees, IsHeadIn}
 use Rattle.vlt_link_laws.proofs.OfMoves.Empty.{no_left}

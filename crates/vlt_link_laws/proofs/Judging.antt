@@ -7,7 +7,7 @@ use Rattle.vlt_core.specs.Core.{Program}
 use Rattle.vlt_core_laws.specs.States.{HasStates, IsFilledSet}
 use Rattle.vlt_core_laws.specs.Fit.{IsWellFormed}
 use Rattle.vlt_kinds_types.specs.Files.{file_of}
-use Rattle.vlt_kinds.specs.Kinds.{Kinds}
+use Rattle.vlt_kinds_types.specs.Kinds.{Kinds}
 use Rattle.vlt_kinds.specs.Tables.{kinds_of}
 use Rattle.vlt_resolve.specs.Elaboration.{main_of}
 use Rattle.vlt_resolve_laws.specs.KindsLaws.Declared as declared

@@ -7,11 +7,11 @@ use Rattle.std.specs.Prelude.{nat_lt}
 use Rattle.vlt_syntax.specs.Tree.{Decl, Tree}
 use Rattle.vlt_core.specs.Core.{Func, Program}
 use Rattle.vlt_core.specs.Kinded.{HasKindedParts, IsKinded}
-use Rattle.vlt_kinds_types.specs.Names.Names as nam
+use Rattle.vlt_kinds_decls.specs.Names as nam
 use Rattle.vlt_kinds_types.specs.Files.{file_of}
 use Rattle.vlt_kinds_decls.specs.Decls.{types_refused}
 use Rattle.vlt_kinds_heads.specs.Phase.{heads_refused, core_heads}
-use Rattle.vlt_kinds.specs.Kinds.{Kinds}
+use Rattle.vlt_kinds_types.specs.Kinds.{Kinds}
 use Rattle.vlt_kinds.specs.Tables.{kinds_of}
 use Rattle.vlt_resolve.specs.Elaboration.{is_main, main_of}
 use Rattle.vlt_resolve_laws.proofs.Whole.{MainAt, main_is, some_main, Facts, AreFine, facts_walked, kinded_but_main, kinded}

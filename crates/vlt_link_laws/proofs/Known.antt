@@ -12,7 +12,7 @@ use Rattle.vlt_kinds_types.specs.Names.Globals.{global_in, decl_name}
 use Rattle.vlt_kinds_types.specs.declared.names.globals.Entity.{Entity}
 use Rattle.vlt_kinds_types.specs.declared.names.globals.Entity.TheVariants.{ASet, AType, AFunction}
 use Rattle.vlt_kinds_types.specs.Names.Refusals.{refuse_if, of_each}
-use Rattle.vlt_kinds_types.specs.Names.Names as nam
+use Rattle.vlt_kinds_decls.specs.Names as nam
 use Rattle.vlt_kinds_types.specs.declared.shapes.Shape.{Shape}
 use Rattle.vlt_kinds_types.specs.Files.{File, as_type, as_set, type_in, set_in, wanted_in, wanted_type, header_in, lists_keys, owns_payload, leaves_payload_open, is_known_type, variant_sort, sort_of_cases, shapes_in, sets_in, then_with, shape_at, shape_named}
 use Rattle.vlt_kinds_types.specs.Types.{sort_in, ty_refused, named_refused, name_refused, owned_refused, form_refused, ty_place}

@@ -13,12 +13,12 @@ use Rattle.vlt_link_laws.specs.CoreMoves.Keeps.{HasClauseOf, Keeps}
 use Rattle.vlt_link_laws.proofs.OfCoreMoves.Rowed.{rows_know}
 use Rattle.vlt_link_laws.proofs.OfCoreMoves.Flows.{still_accepted}
 use Rattle.vlt_kinds_types.specs.Names.Globals.{globals_of}
-use Rattle.vlt_kinds_types.specs.Names.Names as nam
+use Rattle.vlt_kinds_decls.specs.Names as nam
 use Rattle.vlt_kinds_types.specs.Names.Refusals.{of_each}
 use Rattle.vlt_kinds_types.specs.Files.{file_of}
 use Rattle.vlt_kinds_decls.specs.Decls.{type_refused}
 use Rattle.vlt_kinds_heads.specs.Phase.{heads_refused_in}
-use Rattle.vlt_kinds.specs.Kinds.{Kinds}
+use Rattle.vlt_kinds_types.specs.Kinds.{Kinds}
 use Rattle.vlt_kinds.specs.Tables.{kinds_of}
 use Rattle.vlt_resolve.specs.Elaboration.{walk_decls}
 use Rattle.vlt_link_laws.specs.Moves.Joins.{Joins, befores, afters, moves_of}

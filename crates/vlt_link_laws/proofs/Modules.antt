@@ -5,8 +5,8 @@ use Rattle.std.specs.Str.{bytes_eq}
 use Rattle.vlt_syntax.specs.Tree.{Decl, Tree}
 use Rattle.vlt_syntax.specs.Lists.{Each}
 use Rattle.vlt_core.specs.Core.{Func}
-use Rattle.vlt_kinds_types.specs.Names.Globals.{decl_name, Counts, global_of, counts_after}
-use Rattle.vlt_kinds_types.specs.Names.Names as nam
+use Rattle.vlt_kinds_types.specs.Names.Globals.{decl_name, Counts, global_of, counts_after, names_again}
+use Rattle.vlt_kinds_decls.specs.Names as nam
 use Rattle.vlt_kinds_types.specs.Names.Refusals.{of_each}
 use Rattle.vlt_syntax_copies.specs.Raised.{raised}
 use Rattle.vlt_iface.specs.declared.places.TheConstants.{RAISE}
@@ -91,19 +91,19 @@ part_of js fs main fits new v = record {
 
 pub declarations_link : (is ms ns : List Decl) → of_each (given_refused ms) is ≡ [] → of_each (given_refused ns) is ≡ [] → IsApart is ms ns →
     (fs gs : List Func) (x y : ℕ) → IsView (first_joins is ms ns) fs x → IsView (second_joins is ms ns) gs y →
-    nam.no_main (view_decls is ns) ≡ [] → nam.names_again (view_decls is ms) ≡ [] → nam.names_again (view_decls is ns) ≡ [] → IsLinked (view_decls is (ms ++ ns))
+    nam.no_main (view_decls is ns) ≡ [] → names_again (view_decls is ms) ≡ [] → names_again (view_decls is ns) ≡ [] → IsLinked (view_decls is (ms ++ ns))
 declarations_link is ms ns one two apart fs gs x y first second main before following =
     subst IsLinked (first_is_joined is ms ns)
     (views_link (first_joins is ms ns) (second_joins is ms ns) (views_cover is ms ns) fs gs x y
     (part_of (first_joins is ms ns) fs x (first_fits is ms ns two) (given_new ms ms ns is _ (same_new (others is [] ms) _ (new_alone (others is ms ns)))) first)
     (part_of (second_joins is ms ns) gs y (second_fits is ms ns one apart.once) (given_new ns ms ns is _ (new_before (others is [] ms) (others is ms ns) apart.names)) second)
     (ap nam.no_main (second_is_view is ms ns apart.rest) ∙ main)
-    (ap nam.names_again (first_is_joined is ms ns) ∙ joined_once is ms ns (ap (λ ds. with_given is (ms ++ ns) ++ ds) (others_both is [] ms ns)) apart.rest apart.names before following))
+    (ap names_again (first_is_joined is ms ns) ∙ joined_once is ms ns (ap (λ ds. with_given is (ms ++ ns) ++ ds) (others_both is [] ms ns)) apart.rest apart.names before following))
 
 pub modules_link : (i f g : Tree) → of_each (given_refused (map (raised RAISE) f.decls)) i.decls ≡ [] → of_each (given_refused (map (raised RAISE) g.decls)) i.decls ≡ [] →
     IsApart i.decls (map (raised RAISE) f.decls) (map (raised RAISE) g.decls) → (fs gs : List Func) (x y : ℕ) →
     IsView (first_joins i.decls (map (raised RAISE) f.decls) (map (raised RAISE) g.decls)) fs x → IsView (second_joins i.decls (map (raised RAISE) f.decls) (map (raised RAISE) g.decls)) gs y →
-    nam.no_main (view_decls i.decls (map (raised RAISE) g.decls)) ≡ [] → nam.names_again (view_decls i.decls (map (raised RAISE) f.decls)) ≡ [] → nam.names_again (view_decls i.decls (map (raised RAISE) g.decls)) ≡ [] → IsLinked (joined i f g).decls
+    nam.no_main (view_decls i.decls (map (raised RAISE) g.decls)) ≡ [] → names_again (view_decls i.decls (map (raised RAISE) f.decls)) ≡ [] → names_again (view_decls i.decls (map (raised RAISE) g.decls)) ≡ [] → IsLinked (joined i f g).decls
 modules_link i f g one two apart fs gs x y first second main before following =
     let same = map-append (raised RAISE) f.decls g.decls in
     subst (λ ms. IsLinked (view_decls i.decls ms)) (sym same)

@@ -10,7 +10,7 @@ use Rattle.vlt_link_laws.specs.CoreMoves.Moves.{Moves}
 use Rattle.vlt_core.specs.Derives.{IsAccepted}
 use Rattle.vlt_core.specs.Kinded.{first_broken, function_rows}
 use Rattle.vlt_kinds_types.specs.Names.Globals.{globals_of}
-use Rattle.vlt_kinds_types.specs.Names.Names as nam
+use Rattle.vlt_kinds_decls.specs.Names as nam
 use Rattle.vlt_kinds_types.specs.Names.Refusals.{of_each}
 use Rattle.vlt_kinds_types.specs.Files.{file_of, shape_named}
 use Rattle.vlt_kinds_types.specs.Types.{sort_in}
@@ -19,7 +19,7 @@ use Rattle.vlt_kinds_heads.specs.Keys.{keys_of}
 use Rattle.vlt_kinds_heads.specs.Places.{clause_in, head_names}
 use Rattle.vlt_kinds_heads.specs.Externals.{cases_named, external_refused}
 use Rattle.vlt_kinds_heads.specs.Phase.{heads_refused_in}
-use Rattle.vlt_kinds.specs.Kinds.{Kinds}
+use Rattle.vlt_kinds_types.specs.Kinds.{Kinds}
 use Rattle.vlt_kinds.specs.Tables.{kinds_of, kinds_told}
 use Rattle.vlt_resolve.specs.Elaboration.{stmts_in, walk_decls, elaborated}
 use Rattle.vlt_link_laws.specs.Moves.Joins.{Join, Joins, befores, afters, moves_of}

@@ -5,8 +5,8 @@ use Rattle.vlt_syntax.specs.Tree.{Decl}
 use Rattle.vlt_syntax.specs.Lists.{Each}
 use Rattle.vlt_core.specs.Core.{Func}
 use Rattle.vlt_core.specs.declared.rules.TheConstants as rule
-use Rattle.vlt_kinds_types.specs.Names.Globals.{globals_of}
-use Rattle.vlt_kinds_types.specs.Names.Names as nam
+use Rattle.vlt_kinds_types.specs.Names.Globals.{globals_of, names_again}
+use Rattle.vlt_kinds_decls.specs.Names as nam
 use Rattle.vlt_kinds_types.specs.Names.Refusals.{refuse_if, of_each, least}
 use Rattle.vlt_kinds_types.specs.Files.{file_of}
 use Rattle.vlt_kinds_decls.specs.Decls as decls
@@ -58,7 +58,7 @@ told es one two three =
     (ap (λ rs. unless (least rs) (heads_told es)) two ∙
     ap (λ rs. unless (least rs) (Ok (kinds_of es))) three)
 
-named : (es : List Decl) → nam.no_main es ≡ [] → nam.names_again es ≡ [] → of_each (nam.decl_refused (globals_of es)) es ≡ [] → nam.names_refused es ≡ []
+named : (es : List Decl) → nam.no_main es ≡ [] → names_again es ≡ [] → of_each (nam.decl_refused (globals_of es)) es ≡ [] → nam.names_refused es ≡ []
 unfolding nam.names_refused
 named es one two three = none_of_both _ _ one (none_of_both _ _ two three)
 
@@ -71,7 +71,7 @@ unfolding heads_refused
 headed es none = none
 
 pub views_link : (js ks : Joins) → Covers js ks → (fs gs : List Func) (i k : ℕ) → IsPart js fs i → IsPart ks gs k →
-    nam.no_main (befores ks) ≡ [] → nam.names_again (afters js) ≡ [] → IsLinked (afters js)
+    nam.no_main (befores ks) ≡ [] → names_again (afters js) ≡ [] → IsLinked (afters js)
 views_link js ks covers fs gs i k first second main once =
     let same = sym (same_afters js ks covers) in
     let p = linked js ks covers fs gs i k first second (main_of (kinds_of (afters js)).heads) in

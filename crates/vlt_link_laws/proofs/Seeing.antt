@@ -4,7 +4,7 @@ use Rattle.vlt_syntax.specs.Tree.{Decl}
 use Rattle.vlt_syntax.specs.Lists.{Each}
 use Rattle.vlt_kinds_types.specs.Names.Globals.{global_in, globals_of, decl_name, no_counts}
 use Rattle.vlt_kinds_types.specs.declared.names.globals.Entity.{Entity}
-use Rattle.vlt_kinds_types.specs.Names.Names as nam
+use Rattle.vlt_kinds_decls.specs.Names as nam
 use Rattle.vlt_kinds_types.specs.Names.Refusals.{of_each}
 use Rattle.vlt_kinds_types.specs.Files.{file_of}
 use Rattle.vlt_kinds_decls.specs.Decls.{type_refused}

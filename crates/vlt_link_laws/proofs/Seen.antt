@@ -13,11 +13,11 @@ use Rattle.vlt_link_laws.specs.CoreMoves.Keeps.{HasClauseOf, Keeps}
 use Rattle.vlt_kinds_types.specs.Names.Globals.{global_in}
 use Rattle.vlt_kinds_types.specs.declared.names.globals.Entity.{Entity}
 use Rattle.vlt_kinds_types.specs.declared.names.globals.Entity.TheVariants.{ASet, AType, AFunction}
-use Rattle.vlt_kinds_types.specs.Names.Names as nam
+use Rattle.vlt_kinds_decls.specs.Names as nam
 use Rattle.vlt_kinds_types.specs.declared.shapes.Shape.{Shape}
 use Rattle.vlt_kinds_types.specs.Files.{File, file_of, as_type, shapes_in, then_with, states_in, state_names, shape_at, shape_named, set_in}
 use Rattle.vlt_kinds_decls.specs.Made.{core_types_in, core_types, core_struct, core_variant}
-use Rattle.vlt_kinds.specs.Kinds.{Kinds, declared_program}
+use Rattle.vlt_kinds_types.specs.Kinds.{Kinds, declared_program}
 use Rattle.vlt_link_laws.specs.Moves.Joins.{Joins, befores, afters, is_type, moves_of}
 use Rattle.vlt_link_laws.specs.Moves.Sees.{Sees, IsShapeIn, IsHeadIn, moved_global}
 use Rattle.vlt_link_laws.proofs.OfMoves.Empty.{no_left, no_right}

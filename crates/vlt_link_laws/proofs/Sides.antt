@@ -8,7 +8,7 @@ use Rattle.vlt_core.specs.Core.{Func}
 use Rattle.vlt_core.specs.Derives.{IsAccepted}
 use Rattle.vlt_core.specs.Kinded.{first_broken, function_rows}
 use Rattle.vlt_kinds_types.specs.Names.Globals.{globals_of, decl_name}
-use Rattle.vlt_kinds_types.specs.Names.Names as nam
+use Rattle.vlt_kinds_decls.specs.Names as nam
 use Rattle.vlt_kinds_types.specs.Names.Refusals.{of_each}
 use Rattle.vlt_kinds_types.specs.Files.{file_of}
 use Rattle.vlt_kinds_decls.specs.Decls.{type_refused}

@@ -9,13 +9,13 @@ use Rattle.vlt_core.specs.Kinded.{function_rows, parts_broken, first_broken, Has
 use Rattle.vlt_core.specs.declared.rules.TheConstants as rule
 use Rattle.vlt_core_laws.proofs.Unbroken.{EachEmpty, some_not_none, some_same, each_left, each_right, each_of_first}
 use Rattle.vlt_kinds_types.specs.declared.names.found.Refusal.{Refusal}
-use Rattle.vlt_kinds_types.specs.Names.Globals.{globals_of}
-use Rattle.vlt_kinds_types.specs.Names.Names as nam
+use Rattle.vlt_kinds_types.specs.Names.Globals.{globals_of, names_again}
+use Rattle.vlt_kinds_decls.specs.Names as nam
 use Rattle.vlt_kinds_types.specs.Names.Refusals.{of_each, least}
 use Rattle.vlt_kinds_types.specs.Files.{file_of}
 use Rattle.vlt_kinds_decls.specs.Decls.{type_refused, types_refused}
 use Rattle.vlt_kinds_heads.specs.Phase.{heads_refused_in, heads_refused}
-use Rattle.vlt_kinds.specs.Kinds.{Kinds}
+use Rattle.vlt_kinds_types.specs.Kinds.{Kinds}
 use Rattle.vlt_kinds.specs.Tables.{kinds_of, unless}
 use Rattle.vlt_resolve.specs.Elaboration.{walk_decls, main_of, walk_tree, Told, broken, told_of, with_told}
 use Rattle.vlt_syntax_copies.specs.Raised.{raised}
@@ -42,7 +42,7 @@ went None go z e = (refl, e)
 went (Some r) go z e = absurd (told_not_ok r z e)
 
 pub record ViewFine (os : List ℕ) (ds : List Decl) : Type 0 where
-  pub again : nam.names_again ds ≡ []
+  pub again : names_again ds ≡ []
   pub named : of_each (nam.decl_refused (globals_of ds)) ds ≡ []
   pub typed : of_each (type_refused (file_of ds)) ds ≡ []
   pub headed : of_each (heads_refused_in (file_of ds) (kinds_of ds).types) ds ≡ []
@@ -57,8 +57,8 @@ view_fine os ds kinds e =
     let names = no_least (nam.other_names_refused ds) one.0 in
     let heads = no_least (view_heads_refused (file_of ds) (kinds_of ds).types os ds) three.0 in (
       record {
-        again = no_left (nam.names_again ds) _ names;
-        named = no_right (nam.names_again ds) _ names;
+        again = no_left (names_again ds) _ names;
+        named = no_right (names_again ds) _ names;
         typed = no_least (types_refused (file_of ds) ds) two.0;
         headed = no_left (heads_refused (file_of ds) (kinds_of ds).types ds) _ heads;
         own = no_right (heads_refused (file_of ds) (kinds_of ds).types ds) _ heads;

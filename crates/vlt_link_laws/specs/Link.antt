@@ -9,7 +9,7 @@ use Rattle.vlt_syntax.specs.Grammar.{IsTree, language}
 use Rattle.vlt_core.specs.Core.{Program}
 use Rattle.vlt_core.specs.Kinded.{HasKindedParts, IsKinded}
 use Rattle.vlt_core.specs.Derives.{IsAccepted}
-use Rattle.vlt_kinds.specs.Kinds.{Kinds}
+use Rattle.vlt_kinds_types.specs.Kinds.{Kinds}
 use Rattle.vlt_kinds.specs.Tables.{kinds_told}
 use Rattle.vlt_resolve.specs.Elaboration.{elaborated}
 use Rattle.vlt_iface.specs.View.{View, viewed, joined}

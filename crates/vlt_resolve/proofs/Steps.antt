@@ -8,7 +8,7 @@ use Rattle.vlt_syntax.specs.View.{decl_of}
 use Rattle.vlt_core.specs.Core.{Func}
 use Rattle.vlt_core.specs.declared.program.Func as made
 use Rattle.vlt_core.specs.View.{func_of}
-use Rattle.vlt_kinds.specs.Kinds.{Kinds}
+use Rattle.vlt_kinds_types.specs.Kinds.{Kinds}
 use Rattle.vlt_resolve.specs.Walk.Walk.{then_do}
 use Rattle.vlt_resolve.specs.Elaboration.{walk_decls, walk_function, is_function}
 

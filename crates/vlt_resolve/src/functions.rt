@@ -4,7 +4,7 @@ ghost use Rattle.std.specs.Prelude.{◌≡◌, [], ◌∷◌, ◌++◌, map, tru
 ghost use Rattle.vlt_syntax.specs.View as tree;
 ghost use Rattle.vlt_core.specs.View.{func_of, key_of, var_of, entry_of, stmt_of};
 ghost use Rattle.vlt_kinds_types.specs.Names.Refusals.{least_from, least};
-ghost use Rattle.vlt_kinds.specs.Seen.{kinds_seen};
+ghost use Rattle.vlt_kinds_types.specs.Seen.{kinds_seen};
 ghost use Rattle.vlt_resolve_exprs.specs.Seen.{scope_seen};
 ghost use Rattle.vlt_resolve.specs.Elaboration as e;
 ghost use Rattle.vlt_resolve.specs.Walk.Refusals.{OnRefused};
@@ -16,7 +16,7 @@ use std::alloc::{AllocError, Global};
 use vlt_base::{FnId, Items, KeyId, VarId};
 use vlt_core::rules::NO_END;
 use vlt_core::{Entry, Form, Func, KeyDecl, Mode, Tok, VarDecl};
-use vlt_kinds::Kinds;
+use vlt_kinds_types::Kinds;
 use vlt_kinds_types::LeastRefusal;
 use vlt_resolve_exprs::Scope;
 use vlt_resolve_exprs::limits::{TOO_MANY_KEYS, TOO_MANY_VARIABLES};

@@ -6,7 +6,7 @@
 ghost use Rattle.std.specs.Prelude.{◌≡◌, Some, Ok, Err, IfOk};
 ghost use Rattle.vlt_syntax.specs.View.{tree_of};
 ghost use Rattle.vlt_core.specs.View.{program_of};
-ghost use Rattle.vlt_kinds.specs.Seen.{kinds_seen};
+ghost use Rattle.vlt_kinds_types.specs.Seen.{kinds_seen};
 ghost use Rattle.vlt_resolve.specs.Elaboration.{elaborated, told_of, walk_tree};
 ghost use Rattle.vlt_resolve.specs.Refusals.{OnTold, error_seen};
 ghost use Rattle.vlt_resolve.specs.Walk.Refusals.{OnRefused};
@@ -23,7 +23,7 @@ pub use error::ElabError;
 use std::alloc::Global;
 use vlt_base::{KEYS, VARIABLES};
 use vlt_core::Program;
-use vlt_kinds::Kinds;
+use vlt_kinds_types::Kinds;
 use vlt_kinds_types::Refusal;
 use vlt_resolve_exprs::limits::{TOO_MANY_KEYS, TOO_MANY_VARIABLES};
 use vlt_syntax::Tree;

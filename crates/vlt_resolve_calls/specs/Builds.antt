@@ -10,7 +10,7 @@ use Rattle.vlt_core.specs.Lookups.{cases_in, variant_in}
 use Rattle.vlt_core.specs.declared.rules.TheConstants.{WRONG_TYPE, WRONG_COUNT}
 use Rattle.vlt_kinds_types.specs.declared.names.found.Refusal.{Refusal}
 use Rattle.vlt_kinds_types.specs.Names.Refusals.{refusal}
-use Rattle.vlt_kinds.specs.Kinds.{Kinds}
+use Rattle.vlt_kinds_types.specs.Kinds.{Kinds}
 use Rattle.vlt_resolve_exprs.specs.Types.{then_with, ty_under}
 use Rattle.vlt_resolve_exprs.specs.Scopes.{Scope}
 use Rattle.vlt_resolve_exprs.specs.Operands.{operands_refused, core_operands}

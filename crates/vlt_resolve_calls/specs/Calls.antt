@@ -10,7 +10,7 @@ use Rattle.vlt_core.specs.Types.{args_of, keys_of_ty}
 use Rattle.vlt_core.specs.declared.rules.TheConstants as rule
 use Rattle.vlt_kinds_types.specs.declared.names.found.Refusal.{Refusal}
 use Rattle.vlt_kinds_types.specs.Names.Refusals.{refusal, refuse_if}
-use Rattle.vlt_kinds.specs.Kinds.{Kinds, head_named, function_named}
+use Rattle.vlt_kinds_types.specs.Kinds.{Kinds, head_named, function_named}
 use Rattle.vlt_resolve_exprs.specs.Types.{is_inside}
 use Rattle.vlt_resolve_exprs.specs.Scopes.{Scope}
 use Rattle.vlt_resolve_exprs.specs.Exprs.{type_of, expr_refused, expr_place, number_of}

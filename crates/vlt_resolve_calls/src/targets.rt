@@ -5,7 +5,7 @@ ghost use Rattle.vlt_syntax.specs.View as tree;
 ghost use Rattle.vlt_core.specs.Core as core;
 ghost use Rattle.vlt_core.specs.View.{ty_of, expr_of, form_of};
 ghost use Rattle.vlt_kinds_types.specs.Names.Refusals.{least_from};
-ghost use Rattle.vlt_kinds.specs.Seen.{kinds_seen};
+ghost use Rattle.vlt_kinds_types.specs.Seen.{kinds_seen};
 ghost use Rattle.vlt_resolve_exprs.specs.Seen.{scope_seen};
 ghost use Rattle.vlt_resolve_calls.specs.Targets as t;
 ghost use Rattle.vlt_resolve_calls.specs.Seen.{target_seen};
@@ -14,7 +14,7 @@ use std::alloc::{AllocError, Global};
 use vlt_base::VarId;
 use vlt_core::rules::WRONG_TYPE;
 use vlt_core::{self, Form, Ty};
-use vlt_kinds::Kinds;
+use vlt_kinds_types::Kinds;
 use vlt_kinds_types::LeastRefusal;
 use vlt_resolve_exprs::{
     Scope, check_any, core_expr, core_operand, core_variable, is_owning, place, takes, unpacks,

@@ -4,7 +4,7 @@ use Rattle.vlt_ops.specs.Operator.{row_of}
 use Rattle.vlt_syntax.specs.Tree as s
 use Rattle.vlt_kinds_types.specs.declared.names.found.Refusal.{Refusal}
 use Rattle.vlt_kinds_types.specs.Names.Refusals.{least_from}
-use Rattle.vlt_kinds.specs.Kinds.{Kinds}
+use Rattle.vlt_kinds_types.specs.Kinds.{Kinds}
 use Rattle.vlt_resolve_exprs.specs.Scopes.{Scope, with_var}
 use Rattle.vlt_resolve_exprs.specs.Exprs.{type_given, type_of, expr_place, unfit, operand_wanted, left_refused, unary_refused, binary_refused, expr_refused}
 use Rattle.vlt_core.specs.Core.{Ty}

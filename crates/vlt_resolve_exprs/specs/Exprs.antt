@@ -14,7 +14,7 @@ use Rattle.vlt_core.specs.Lookups.{fields_in, is_owning}
 use Rattle.vlt_kinds_types.specs.declared.names.found.Refusal.{Refusal}
 use Rattle.vlt_core.specs.declared.rules.TheConstants.{UNKNOWN_NAME, WRONG_TYPE, GUARDED_FIELD, WRONG_SWAP}
 use Rattle.vlt_kinds_types.specs.Names.Refusals.{refusal, refuse_if}
-use Rattle.vlt_kinds.specs.Kinds.{Kinds}
+use Rattle.vlt_kinds_types.specs.Kinds.{Kinds}
 use Rattle.vlt_resolve_exprs.specs.Refused.{unknown_name}
 use Rattle.vlt_resolve_exprs.specs.Types.{then_with, is_inside, is_same_ty, ty_under}
 use Rattle.vlt_resolve_exprs.specs.Scopes.{Scope, var_named, var_ty}

@@ -6,7 +6,7 @@ use Rattle.indexmap.specs.IndexMap.{insert_entry}
 use Rattle.vlt_core.specs.Core as core
 use Rattle.vlt_core.specs.Core.{Tok, a_key, a_var, Ty}
 use Rattle.vlt_core.specs.Lookups.{is_owning}
-use Rattle.vlt_kinds.specs.Kinds.{Kinds}
+use Rattle.vlt_kinds_types.specs.Kinds.{Kinds}
 use Rattle.vlt_kinds_types.specs.Names.Globals.{is_global}
 use Rattle.vlt_resolve_exprs.specs.Types.{then_with}
 

@@ -4,7 +4,7 @@ ghost use Rattle.std.specs.Prelude.{◌≡◌, map, length, IfOk, OnOk};
 ghost use Rattle.vlt_syntax.specs.View as tree;
 ghost use Rattle.vlt_kinds_types.specs.Names.Refusals.{least_from};
 ghost use Rattle.vlt_core.specs.View.{ty_of, vars_of};
-ghost use Rattle.vlt_kinds.specs.Seen.{kinds_seen};
+ghost use Rattle.vlt_kinds_types.specs.Seen.{kinds_seen};
 ghost use Rattle.vlt_resolve_exprs.specs.Bindings as b;
 ghost use Rattle.vlt_resolve_exprs.specs.Least.{new_vars_found};
 ghost use Rattle.vlt_resolve_exprs.specs.Seen.{scope_seen};
@@ -16,7 +16,7 @@ use std::alloc::{AllocError, Global};
 use vlt_base::{Items, VarId};
 use vlt_core::Ty;
 use vlt_core::rules::{NAME_TAKEN, WRONG_COUNT};
-use vlt_kinds::Kinds;
+use vlt_kinds_types::Kinds;
 use vlt_kinds_types::LeastRefusal;
 use vlt_syntax::Name;
 

@@ -5,7 +5,7 @@ ghost use Rattle.vlt_base.specs.States.{has_state};
 ghost use Rattle.vlt_syntax.specs.View as tree;
 ghost use Rattle.vlt_core.specs.View.{ty_of, expr_of, operand_of};
 ghost use Rattle.vlt_kinds_types.specs.Names.Refusals.{least_from};
-ghost use Rattle.vlt_kinds.specs.Seen.{kinds_seen};
+ghost use Rattle.vlt_kinds_types.specs.Seen.{kinds_seen};
 ghost use Rattle.vlt_resolve_exprs.specs.Exprs as e;
 ghost use Rattle.vlt_resolve_exprs.specs.Least.{operands_found};
 ghost use Rattle.vlt_resolve_exprs.specs.Operands as o;
@@ -18,7 +18,7 @@ use std::alloc::{AllocError, Global};
 use vlt_base::{Items, StateSet, VarId};
 use vlt_core::rules::WRONG_TYPE;
 use vlt_core::{self, Operand, Ty};
-use vlt_kinds::Kinds;
+use vlt_kinds_types::Kinds;
 use vlt_kinds_types::LeastRefusal;
 use vlt_syntax::Expr;
 

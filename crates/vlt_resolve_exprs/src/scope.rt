@@ -2,7 +2,7 @@
 
 ghost use Rattle.std.specs.Prelude.{◌≡◌, [], ◌∷◌, ◌++◌, map, option_map, length, slice_get, IfOk, OnOk};
 ghost use Rattle.vlt_core.specs.View.{tok_of, ty_of};
-ghost use Rattle.vlt_kinds.specs.Seen.{kinds_seen};
+ghost use Rattle.vlt_kinds_types.specs.Seen.{kinds_seen};
 ghost use Rattle.vlt_resolve_exprs.specs.Exprs.{number_of};
 ghost use Rattle.vlt_resolve_exprs.specs.Scopes as s;
 ghost use Rattle.vlt_resolve_exprs.specs.Seen.{scope_seen, left_with};
@@ -14,7 +14,7 @@ use std::alloc::{AllocError, Global};
 use std::mem;
 use vlt_base::{Items, KeyId, TypeId, VarId};
 use vlt_core::{KeyDecl, Tok, Ty, VarDecl};
-use vlt_kinds::Kinds;
+use vlt_kinds_types::Kinds;
 use vlt_kinds_types::KeyNumbers;
 
 /// The names in scope, all keys and variables of the function so far, and those that the innermost block binds.

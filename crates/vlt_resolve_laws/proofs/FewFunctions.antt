@@ -6,7 +6,7 @@ use Rattle.vlt_syntax.specs.Tree.{Decl, Tree}
 use Rattle.vlt_core.specs.Core.{Func, Program}
 use Rattle.vlt_kinds_types.specs.Files.{File}
 use Rattle.vlt_kinds_heads.specs.Phase.{core_heads_in, core_heads}
-use Rattle.vlt_kinds.specs.Kinds.{Kinds}
+use Rattle.vlt_kinds_types.specs.Kinds.{Kinds}
 use Rattle.vlt_kinds.specs.Tables.{kinds_of}
 use Rattle.vlt_resolve_laws.specs.Made.{AreMade}
 use Rattle.vlt_resolve_laws.specs.Elaborated.{IsElaborated}

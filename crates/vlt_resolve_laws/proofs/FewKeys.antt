@@ -6,7 +6,7 @@ use Rattle.vlt_syntax.specs.Tree as s
 use Rattle.vlt_syntax.specs.Tree.{Name, Right, Stmt, Block, Head, Tree}
 use Rattle.vlt_core.specs.Core.{Ty, KeyDecl, Func, Program}
 use Rattle.vlt_kinds_types.specs.Files.{type_named}
-use Rattle.vlt_kinds.specs.Kinds.{Kinds}
+use Rattle.vlt_kinds_types.specs.Kinds.{Kinds}
 use Rattle.vlt_resolve_laws.proofs.OfKindsLaws.Empty.{no_left, no_right, not_broken}
 use Rattle.vlt_resolve_exprs.specs.declared.limits.TheConstants.{TOO_MANY_KEYS}
 use Rattle.vlt_resolve_exprs.specs.Scopes.{Scope, var_ty, with_key, with_var}

@@ -5,7 +5,7 @@ use Rattle.vlt_syntax.specs.Lists.{Each}
 use Rattle.vlt_core.specs.Core.{States, Program}
 use Rattle.vlt_core_laws.specs.States.{HasStates, IsFilledSet}
 use Rattle.vlt_kinds_types.specs.Files.{File, file_of}
-use Rattle.vlt_kinds.specs.Kinds.{Kinds}
+use Rattle.vlt_kinds_types.specs.Kinds.{Kinds}
 use Rattle.vlt_kinds.specs.Tables.{kinds_of}
 use Rattle.vlt_resolve_calls.specs.Builds.{cases_of}
 use Rattle.vlt_resolve_laws.specs.KindsLaws.Shapes.{Describes}

@@ -7,7 +7,7 @@ use Rattle.vlt_syntax.specs.Tree.{Tree}
 use Rattle.vlt_core.specs.Core.{States, Program}
 use Rattle.vlt_core_laws.specs.States.{IsFilledSet}
 use Rattle.vlt_kinds_types.specs.Files.{file_of}
-use Rattle.vlt_kinds.specs.Kinds.{Kinds}
+use Rattle.vlt_kinds_types.specs.Kinds.{Kinds}
 use Rattle.vlt_resolve_laws.proofs.OfKindsLaws.States.{ListedAre}
 use Rattle.vlt_resolve_laws.specs.Narrow.{IsNarrowSet, IsMask, HasMasks}
 use Rattle.vlt_resolve_laws.specs.Elaborated.{IsElaborated}

@@ -12,7 +12,7 @@ use Rattle.vlt_kinds_types.specs.declared.shapes.Shape.{Shape}
 use Rattle.vlt_kinds_types.specs.Files.{file_of, sets_in, state_texts, links_of, then_with, states_in, state_names}
 use Rattle.vlt_kinds_types.specs.Types.{state_count_in}
 use Rattle.vlt_kinds_types.proofs.Sets.{few_texts}
-use Rattle.vlt_kinds.specs.Kinds.{Kinds}
+use Rattle.vlt_kinds_types.specs.Kinds.{Kinds}
 use Rattle.vlt_resolve_laws.proofs.OfKindsLaws.States.{states_fit, ListedAre}
 use Rattle.vlt_resolve_laws.specs.Narrow.{IsNarrowSet, HasNarrowStates}
 use Rattle.vlt_resolve_laws.specs.Elaborated.{IsElaborated}

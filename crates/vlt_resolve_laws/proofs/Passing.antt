@@ -16,7 +16,7 @@ use Rattle.vlt_core.specs.View.{stmts_made, arms_made}
 use Rattle.vlt_kinds_types.specs.declared.names.found.Refusal.{Refusal}
 use Rattle.vlt_kinds_types.specs.Names.Refusals.{least, least_from}
 use Rattle.vlt_resolve_laws.proofs.OfKindsLaws.Rows.{each_at}
-use Rattle.vlt_kinds.specs.Kinds.{Kinds, head_named, function_named}
+use Rattle.vlt_kinds_types.specs.Kinds.{Kinds, head_named, function_named}
 use Rattle.vlt_resolve_exprs.specs.Scopes.{Scope, var_ty, scope_inside, scope_after}
 use Rattle.vlt_resolve_exprs.specs.Exprs.{wanted_refused, type_of, core_expr, var_number, number_of}
 use Rattle.vlt_resolve_exprs.specs.Operands.{object_operand, operand_for, core_operand, core_operands, variable_in}

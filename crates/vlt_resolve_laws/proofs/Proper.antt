@@ -16,7 +16,7 @@ use Rattle.vlt_syntax_laws.specs.Numbers.{IsNumbered, HasNumbers}
 use Rattle.vlt_syntax_laws.proofs.Tokenwise.{after_expr}
 use Rattle.vlt_core.specs.Core.{Program}
 use Rattle.vlt_core.specs.Proper.{is_prefix, is_binary, has_arities, is_literal, has_literals, is_proper, HasArities, HasProperBodies}
-use Rattle.vlt_kinds.specs.Kinds.{Kinds}
+use Rattle.vlt_kinds_types.specs.Kinds.{Kinds}
 use Rattle.vlt_resolve_exprs.specs.Scopes.{Scope}
 use Rattle.vlt_resolve_exprs.specs.Exprs.{core_expr}
 use Rattle.vlt_resolve_laws.specs.Elaborated.{IsElaborated}

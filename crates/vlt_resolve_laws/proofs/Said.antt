@@ -14,7 +14,7 @@ use Rattle.vlt_kinds_types.specs.Types.{core_ty}
 use Rattle.vlt_kinds_decls.specs.Made.{header_number, core_field, core_struct, core_case, core_variant, core_types_in, core_types}
 use Rattle.vlt_kinds_heads.specs.Keys.{keys_of}
 use Rattle.vlt_kinds_heads.specs.Phase.{core_head}
-use Rattle.vlt_kinds.specs.Kinds.{Kinds}
+use Rattle.vlt_kinds_types.specs.Kinds.{Kinds}
 use Rattle.vlt_kinds.specs.Tables.{kinds_of}
 use Rattle.vlt_resolve_laws.specs.KindsLaws.Shapes.{Describes}
 use Rattle.vlt_resolve_laws.specs.KindsLaws.Said.{TypeSays, DeclsSay, EntrySays}

@@ -5,7 +5,7 @@ use Rattle.vlt_core.specs.Core.{Ty}
 use Rattle.vlt_kinds_types.specs.declared.names.found.Refusal.{Refusal}
 use Rattle.vlt_kinds_types.specs.Names.Refusals.{least_from}
 use Rattle.vlt_kinds_types.proofs.OfNames.Least.{least_of_both}
-use Rattle.vlt_kinds.specs.Kinds.{Kinds}
+use Rattle.vlt_kinds_types.specs.Kinds.{Kinds}
 use Rattle.vlt_resolve_exprs.specs.Scopes.{Scope}
 use Rattle.vlt_resolve_exprs.specs.Operands.{operand_refused}
 use Rattle.vlt_resolve_rights.specs.News.{inits_refused}

@@ -15,7 +15,7 @@ use Rattle.vlt_kinds_types.specs.declared.shapes.Wanted.{Wanted}
 use Rattle.vlt_kinds_types.specs.declared.shapes.Wanted.TheVariants as wanted
 use Rattle.vlt_kinds_types.specs.Files.{type_named, shape_named}
 use Rattle.vlt_kinds_types.specs.Types.{KeyUse, named_uses, name_refused}
-use Rattle.vlt_kinds.specs.Kinds.{Kinds}
+use Rattle.vlt_kinds_types.specs.Kinds.{Kinds}
 use Rattle.vlt_resolve_exprs.specs.Types.{ty_under}
 use Rattle.vlt_resolve_exprs.specs.Refused.{unknown_name}
 use Rattle.vlt_resolve_exprs.specs.Scopes.{Scope, key_named, key_type, var_named, var_ty, more_key, more_var}

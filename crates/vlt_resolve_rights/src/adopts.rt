@@ -4,7 +4,7 @@ ghost use Rattle.std.specs.Prelude.{◌≡◌, option_map};
 ghost use Rattle.vlt_syntax.specs.View as tree;
 ghost use Rattle.vlt_core.specs.View.{ty_of, form_of};
 ghost use Rattle.vlt_kinds_types.specs.Names.Refusals.{least_from};
-ghost use Rattle.vlt_kinds.specs.Seen.{kinds_seen};
+ghost use Rattle.vlt_kinds_types.specs.Seen.{kinds_seen};
 ghost use Rattle.vlt_resolve_exprs.specs.Seen.{scope_seen};
 ghost use Rattle.vlt_resolve_rights.specs.Adopts as a;
 
@@ -13,7 +13,7 @@ use crate::objects::guards;
 use vlt_base::VarId;
 use vlt_core::rules::{WRONG_RELEASE, WRONG_TYPE};
 use vlt_core::{Form, Ty};
-use vlt_kinds::Kinds;
+use vlt_kinds_types::Kinds;
 use vlt_kinds_types::LeastRefusal;
 use vlt_resolve_exprs::{Scope, check_known, same_object, var_number};
 use vlt_syntax::Name;

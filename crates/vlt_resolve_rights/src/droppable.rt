@@ -2,12 +2,12 @@
 
 ghost use Rattle.std.specs.Prelude.{◌≡◌};
 ghost use Rattle.vlt_core.specs.View.{ty_of};
-ghost use Rattle.vlt_kinds.specs.Seen.{kinds_seen};
+ghost use Rattle.vlt_kinds_types.specs.Seen.{kinds_seen};
 ghost use Rattle.vlt_resolve_rights.specs.Droppable as d;
 
 use vlt_base::TypeId;
 use vlt_core::Ty;
-use vlt_kinds::Kinds;
+use vlt_kinds_types::Kinds;
 
 /// Whether objects of the type may be dropped.
 #[tactic(auto, unfolding(crate::specs::Droppable::may_drop_struct))]

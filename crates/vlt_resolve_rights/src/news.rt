@@ -6,7 +6,7 @@ ghost use Rattle.vlt_core.specs.Core as core;
 ghost use Rattle.vlt_core.specs.View.{ty_of, keys_of, field_of, operand_of, type_of};
 ghost use Rattle.vlt_kinds_types.specs.Names.Refusals.{least_from};
 ghost use Rattle.vlt_kinds_types.specs.Files.{type_named};
-ghost use Rattle.vlt_kinds.specs.Seen.{kinds_seen};
+ghost use Rattle.vlt_kinds_types.specs.Seen.{kinds_seen};
 ghost use Rattle.vlt_resolve_exprs.specs.Exprs.{number_of};
 ghost use Rattle.vlt_resolve_exprs.specs.Seen.{scope_seen};
 ghost use Rattle.vlt_resolve_rights.specs.News as n;
@@ -21,7 +21,7 @@ use std::alloc::{AllocError, Global};
 use vlt_base::{Boxed, Items, KeyId, TypeId, VarId};
 use vlt_core::rules::{WRONG_COUNT, WRONG_NEW, WRONG_RELEASE, WRONG_TYPE};
 use vlt_core::{FieldDecl, Form, Operand, Ty, TypeDecl};
-use vlt_kinds::Kinds;
+use vlt_kinds_types::Kinds;
 use vlt_kinds_types::LeastRefusal;
 use vlt_resolve_calls::{Forms, Target};
 use vlt_resolve_exprs::{

@@ -4,7 +4,7 @@ ghost use Rattle.std.specs.Prelude.{◌≡◌, map, option_map, length, Some, If
 ghost use Rattle.vlt_syntax.specs.View as tree;
 ghost use Rattle.vlt_core.specs.View.{ty_of, keys_of, field_of, operand_of};
 ghost use Rattle.vlt_kinds_types.specs.Names.Refusals.{least_from};
-ghost use Rattle.vlt_kinds.specs.Seen.{kinds_seen};
+ghost use Rattle.vlt_kinds_types.specs.Seen.{kinds_seen};
 ghost use Rattle.vlt_resolve_exprs.specs.Seen.{scope_seen};
 ghost use Rattle.vlt_resolve_rights.specs.Least.{inits_found};
 ghost use Rattle.vlt_resolve_rights.specs.News as n;
@@ -12,7 +12,7 @@ ghost use Rattle.vlt_resolve_rights.specs.News as n;
 use std::alloc::{AllocError, Global};
 use vlt_base::{Items, KeyId, TypeId};
 use vlt_core::{FieldDecl, Operand, Ty};
-use vlt_kinds::Kinds;
+use vlt_kinds_types::Kinds;
 use vlt_kinds_types::{LeastRefusal, Shape};
 use vlt_resolve_exprs::{Scope, check_operand, core_operand, same_keys, ty_under};
 use vlt_syntax::{Init, Name, Named};

@@ -4,7 +4,7 @@ ghost use Rattle.std.specs.Prelude.{◌≡◌, ◌∷◌, [], option_map, Some, 
 ghost use Rattle.vlt_syntax.specs.View as tree;
 ghost use Rattle.vlt_core.specs.View.{ty_of};
 ghost use Rattle.vlt_kinds_types.specs.Names.Refusals.{least_from};
-ghost use Rattle.vlt_kinds.specs.Seen.{kinds_seen};
+ghost use Rattle.vlt_kinds_types.specs.Seen.{kinds_seen};
 ghost use Rattle.vlt_resolve_exprs.specs.Seen.{scope_seen};
 ghost use Rattle.vlt_resolve_calls.specs.Calls as c;
 ghost use Rattle.vlt_resolve_calls.specs.Seen.{forms_of, target_seen};
@@ -17,7 +17,7 @@ use std::alloc::{AllocError, Global};
 use vlt_base::VarId;
 use vlt_core::rules::WRONG_TYPE;
 use vlt_core::{Form, Ty};
-use vlt_kinds::Kinds;
+use vlt_kinds_types::Kinds;
 use vlt_kinds_types::LeastRefusal;
 use vlt_resolve_calls::{Forms, Target, Use, build, call};
 use vlt_resolve_exprs::{Scope, same_ty};

@@ -4,15 +4,14 @@ ghost use Rattle.std.specs.Prelude.{◌≡◌, map, option_map, length};
 ghost use Rattle.vlt_syntax.specs.View as tree;
 ghost use Rattle.vlt_kinds_types.specs.Names.Refusals.{least_from, found_each};
 ghost use Rattle.vlt_kinds_types.specs.Types as t;
-ghost use Rattle.vlt_kinds_types.specs.Seen.{use_seen};
+ghost use Rattle.vlt_kinds_types.specs.Seen.{use_seen, kinds_seen};
 ghost use Rattle.vlt_kinds_types.specs.declared.shapes.Wanted.TheVariants as wanted;
-ghost use Rattle.vlt_kinds.specs.Seen.{kinds_seen};
 ghost use Rattle.vlt_resolve_exprs.specs.Seen.{scope_seen};
 ghost use Rattle.vlt_resolve_rights.specs.News as n;
 
 use vlt_base::TypeId;
 use vlt_core::rules::{KEY_ARGUMENT, KEY_COUNT, NOT_A_TYPE, TWO_KEY_TYPES, UNKNOWN_NAME};
-use vlt_kinds::Kinds;
+use vlt_kinds_types::Kinds;
 use vlt_kinds_types::{KeyUse, LeastRefusal, Shape, Wanted};
 use vlt_resolve_exprs::Scope;
 use vlt_syntax::{Name, Named};

@@ -7,7 +7,7 @@ use Rattle.vlt_core.specs.Core.{Ty, Form}
 use Rattle.vlt_kinds_types.specs.declared.names.found.Refusal.{Refusal}
 use Rattle.vlt_kinds_types.specs.Files.{type_named}
 use Rattle.vlt_kinds_types.specs.Types.{ty_refused, ty_uses, core_ty}
-use Rattle.vlt_kinds.specs.Kinds.{Kinds}
+use Rattle.vlt_kinds_types.specs.Kinds.{Kinds}
 use Rattle.vlt_resolve_exprs.specs.Refused.{unknown_name}
 use Rattle.vlt_resolve_exprs.specs.Scopes.{Scope, key_named, var_named, var_ty, with_key, with_var}
 use Rattle.vlt_resolve_exprs.specs.Exprs.{number_of, var_number}

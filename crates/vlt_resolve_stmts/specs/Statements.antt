@@ -13,7 +13,7 @@ use Rattle.vlt_kinds_types.specs.declared.names.found.Refusal.{Refusal}
 use Rattle.vlt_kinds_types.specs.Names.Refusals.{refusal, refuse_if}
 use Rattle.vlt_kinds_types.specs.Files.{state_names, state_number}
 use Rattle.vlt_kinds_types.specs.Types.{known_states}
-use Rattle.vlt_kinds.specs.Kinds.{Kinds}
+use Rattle.vlt_kinds_types.specs.Kinds.{Kinds}
 use Rattle.vlt_resolve_exprs.specs.Types.{is_same_ty, is_same_object, ty_under}
 use Rattle.vlt_resolve_exprs.specs.Refused.{unknown_name}
 use Rattle.vlt_resolve_exprs.specs.Scopes.{Scope, var_named, var_ty, more_var}

@@ -4,7 +4,7 @@ ghost use Rattle.std.specs.Prelude.{◌≡◌, ◌∷◌, [], option_map, IfOk, 
 ghost use Rattle.vlt_syntax.specs.View as tree;
 ghost use Rattle.vlt_core.specs.View.{ty_of, form_of, field_of, keys_of};
 ghost use Rattle.vlt_kinds_types.specs.Names.Refusals.{least_from};
-ghost use Rattle.vlt_kinds.specs.Seen.{kinds_seen};
+ghost use Rattle.vlt_kinds_types.specs.Seen.{kinds_seen};
 ghost use Rattle.vlt_resolve_exprs.specs.Exprs as e;
 ghost use Rattle.vlt_resolve_exprs.specs.Scopes.{var_ty};
 ghost use Rattle.vlt_resolve_exprs.specs.Seen.{scope_seen};
@@ -17,7 +17,7 @@ use vlt_core::rules::{
     NOT_A_STATE, UNKNOWN_NAME, WRONG_BECOME, WRONG_RELEASE, WRONG_SWAP, WRONG_TYPE,
 };
 use vlt_core::{FieldDecl, Form, Ty};
-use vlt_kinds::Kinds;
+use vlt_kinds_types::Kinds;
 use vlt_kinds_types::LeastRefusal;
 use vlt_resolve_calls::Forms;
 use vlt_resolve_exprs::{

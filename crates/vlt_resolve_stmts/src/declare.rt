@@ -4,7 +4,7 @@ ghost use Rattle.std.specs.Prelude.{◌≡◌, ◌++◌, option_map, length, IfO
 ghost use Rattle.vlt_syntax.specs.View as tree;
 ghost use Rattle.vlt_core.specs.View.{ty_of};
 ghost use Rattle.vlt_kinds_types.specs.Names.Refusals.{least_from};
-ghost use Rattle.vlt_kinds.specs.Seen.{kinds_seen};
+ghost use Rattle.vlt_kinds_types.specs.Seen.{kinds_seen};
 ghost use Rattle.vlt_resolve_exprs.specs.Exprs.{var_number};
 ghost use Rattle.vlt_resolve_exprs.specs.Refused.{unknown_name};
 ghost use Rattle.vlt_resolve_exprs.specs.Scopes.{var_named, var_ty, with_var};
@@ -17,7 +17,7 @@ ghost use Rattle.vlt_resolve_stmts.specs.Declarations as d;
 use std::alloc::{AllocError, Global};
 use vlt_base::{Items, TypeId, VarId};
 use vlt_core::rules::UNKNOWN_NAME;
-use vlt_kinds::Kinds;
+use vlt_kinds_types::Kinds;
 use vlt_kinds_types::LeastRefusal;
 use vlt_resolve_calls::{Forms, Target};
 use vlt_resolve_exprs::{Scope, check_new_key, check_new_var, copied, copy_ty, known_or_first};

@@ -4,7 +4,7 @@ ghost use Rattle.std.specs.Prelude.{◌≡◌, map, option_map, IfOk, OnOk};
 ghost use Rattle.vlt_syntax.specs.View as tree;
 ghost use Rattle.vlt_core.specs.View.{ty_of, field_of, keys_of};
 ghost use Rattle.vlt_kinds_types.specs.Names.Refusals.{least_from};
-ghost use Rattle.vlt_kinds.specs.Seen.{kinds_seen};
+ghost use Rattle.vlt_kinds_types.specs.Seen.{kinds_seen};
 ghost use Rattle.vlt_resolve_exprs.specs.Scopes.{var_ty};
 ghost use Rattle.vlt_resolve_exprs.specs.Seen.{scope_seen};
 ghost use Rattle.vlt_resolve_calls.specs.Seen.{forms_of};
@@ -14,7 +14,7 @@ use std::alloc::{AllocError, Global};
 use vlt_base::{Items, KeyId, TypeId};
 use vlt_core::rules::{UNKNOWN_NAME, WRONG_RELEASE};
 use vlt_core::{FieldDecl, Form, Ty};
-use vlt_kinds::Kinds;
+use vlt_kinds_types::Kinds;
 use vlt_kinds_types::LeastRefusal;
 use vlt_resolve_calls::Forms;
 use vlt_resolve_exprs::{

@@ -6,7 +6,7 @@ use Rattle.vlt_core.specs.Core.{Func, Program}
 use Rattle.vlt_core.specs.Derives.{IsAccepted}
 use Rattle.vlt_core.specs.Faults.{FlowFault, IsFirstFault}
 use Rattle.vlt_kinds_types.specs.declared.names.found.Refusal.{Refusal}
-use Rattle.vlt_kinds.specs.Kinds.{Kinds}
+use Rattle.vlt_kinds_types.specs.Kinds.{Kinds}
 use Rattle.vlt_kinds.specs.Tables.{kinds_told}
 use Rattle.vlt_resolve.specs.Elaboration.{Told, broken}
 use Rattle.vlt_core_laws.specs.Fit.{IsWellFormed}

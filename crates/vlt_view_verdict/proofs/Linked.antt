@@ -3,7 +3,7 @@ use Rattle.std.proofs.Common.{◌≡◌, Bool, Result, Ok, Err, refl}
 use Rattle.vlt_syntax.specs.Tree.{Tree}
 use Rattle.vlt_core.specs.Core.{Program}
 use Rattle.vlt_kinds_types.specs.declared.names.found.Refusal.{Refusal}
-use Rattle.vlt_kinds.specs.Kinds.{Kinds}
+use Rattle.vlt_kinds_types.specs.Kinds.{Kinds}
 use Rattle.vlt_resolve.specs.Elaboration as elab
 use Rattle.vlt_iface.specs.View.{View}
 use Rattle.vlt_views.specs.Views.{view_kinds_told, view_elaborated}

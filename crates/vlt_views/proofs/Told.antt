@@ -4,12 +4,12 @@ use Rattle.vlt_syntax.specs.Tree.{Decl}
 use Rattle.vlt_core.specs.Core.{TypeDecl, Func}
 use Rattle.vlt_kinds_types.specs.declared.names.found.Refusal.{Refusal}
 use Rattle.vlt_kinds_types.specs.Names.Refusals.{least}
-use Rattle.vlt_kinds_types.specs.Names.Names.{other_names_refused}
+use Rattle.vlt_kinds_decls.specs.Names.{other_names_refused}
 use Rattle.vlt_kinds_types.specs.Files.{File, file_of}
 use Rattle.vlt_kinds_decls.specs.Decls.{types_refused}
 use Rattle.vlt_kinds_decls.specs.Made.{core_types}
 use Rattle.vlt_kinds_heads.specs.Phase.{core_heads}
-use Rattle.vlt_kinds.specs.Kinds.{Kinds}
+use Rattle.vlt_kinds_types.specs.Kinds.{Kinds}
 use Rattle.vlt_kinds.specs.Tables.{unless, kinds_of}
 use Rattle.vlt_kinds.proofs.Told.{same_kinds}
 use Rattle.vlt_views.specs.Views.{view_heads_refused, view_heads_told, view_types_told, view_names_told}

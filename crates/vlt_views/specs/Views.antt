@@ -5,12 +5,12 @@ use Rattle.vlt_syntax.specs.Tree.{Decl}
 use Rattle.vlt_core.specs.Core.{TypeDecl, Program}
 use Rattle.vlt_core.specs.declared.rules.TheConstants.{NO_MAIN}
 use Rattle.vlt_kinds_types.specs.declared.names.found.Refusal.{Refusal}
-use Rattle.vlt_kinds_types.specs.Names.Names.{is_main, other_names_refused}
+use Rattle.vlt_kinds_decls.specs.Names.{is_main, other_names_refused}
 use Rattle.vlt_kinds_types.specs.Names.Refusals.{least}
 use Rattle.vlt_kinds_types.specs.Files.{File, file_of}
 use Rattle.vlt_kinds_decls.specs.Decls.{types_refused}
 use Rattle.vlt_kinds_heads.specs.Phase.{heads_refused}
-use Rattle.vlt_kinds.specs.Kinds.{Kinds}
+use Rattle.vlt_kinds_types.specs.Kinds.{Kinds}
 use Rattle.vlt_kinds.specs.Tables.{kinds_of, unless}
 use Rattle.vlt_resolve.specs.Elaboration.{Told, broken, elaborated}
 use Rattle.vlt_iface.specs.declared.places.TheConstants.{RAISE}

@@ -10,7 +10,7 @@ ghost use Rattle.vlt_syntax.specs.Grammar.{IsTree, language};
 ghost use Rattle.vlt_core.specs.View.{program_of};
 ghost use Rattle.vlt_core.specs.declared.rules.TheConstants.{NO_MAIN};
 ghost use Rattle.vlt_kinds.specs.Tables.{OnRefused};
-ghost use Rattle.vlt_kinds.specs.Seen.{kinds_seen};
+ghost use Rattle.vlt_kinds_types.specs.Seen.{kinds_seen};
 ghost use Rattle.vlt_resolve.specs.Elaboration.{broken};
 ghost use Rattle.vlt_resolve.specs.Refusals.{OnTold, error_seen};
 ghost use Rattle.vlt_iface.specs.declared.places.TheConstants as p;
@@ -23,8 +23,10 @@ mod tables;
 use std::alloc::Global;
 use vlt_core::Program;
 use vlt_iface::{RAISE, View};
-use vlt_kinds::{KindError, Kinds};
-use vlt_kinds_types::{has_main, rules};
+use vlt_kinds::KindError;
+use vlt_kinds_types::Kinds;
+use vlt_kinds_types::rules;
+use vlt_kinds_decls::has_main;
 use vlt_resolve::{ElabError, elaborate};
 
 /// What a view declares, by the rules on names, on types and on heads. The rule on `main` isn't tested.

@@ -6,12 +6,11 @@ ghost use Rattle.vlt_syntax.specs.Lists.{Each};
 ghost use Rattle.vlt_syntax.specs.Grammar.{IsDecl, language};
 ghost use Rattle.vlt_core.specs.View as core_view;
 ghost use Rattle.vlt_kinds_types.specs.Names.Refusals.{least};
-ghost use Rattle.vlt_kinds_types.specs.Names.Names.{other_names_refused};
+ghost use Rattle.vlt_kinds_decls.specs.Names.{other_names_refused};
 ghost use Rattle.vlt_kinds_types.specs.Files as f;
-ghost use Rattle.vlt_kinds_types.specs.Seen.{file_seen};
+ghost use Rattle.vlt_kinds_types.specs.Seen.{file_seen, kinds_seen};
 ghost use Rattle.vlt_kinds_heads.specs.Phase.{core_heads};
 ghost use Rattle.vlt_kinds.specs.Tables.{OnRefused};
-ghost use Rattle.vlt_kinds.specs.Seen.{kinds_seen};
 ghost use Rattle.vlt_views.specs.Views.{view_heads_refused, view_names_told};
 
 use crate::hidden::check_own;
@@ -19,9 +18,11 @@ use std::alloc::Global;
 use vlt_base::Items;
 use vlt_core::{Func, TypeDecl};
 use vlt_kinds::phases::{table_of, told, type_table};
-use vlt_kinds::{KindError, Kinds};
+use vlt_kinds::KindError;
+use vlt_kinds_types::Kinds;
 use vlt_kinds_heads::check_heads;
-use vlt_kinds_types::{File, LeastRefusal, check_other_names, file_of};
+use vlt_kinds_types::{File, LeastRefusal, file_of};
+use vlt_kinds_decls::check_other_names;
 use vlt_syntax::Decl;
 
 /// What a view declares, where no rule on names refuses it.

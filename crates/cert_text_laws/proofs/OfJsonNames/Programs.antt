@@ -15,7 +15,7 @@ use Rattle.vlt_kinds_types.specs.Files.{File, with_text, texts_after, state_text
 use Rattle.vlt_kinds_decls.specs.Made.{core_field, core_struct, core_case, core_variant, core_types_in, core_types}
 use Rattle.vlt_kinds_heads.specs.Keys.{Keys, keys_of}
 use Rattle.vlt_kinds_heads.specs.Phase.{key_decl, core_parameter, core_head, core_heads_in}
-use Rattle.vlt_kinds.specs.Kinds.{Kinds}
+use Rattle.vlt_kinds_types.specs.Kinds.{Kinds}
 use Rattle.vlt_kinds.specs.Tables.{kinds_of}
 use Rattle.vlt_resolve.specs.Walk.Walk.{then_do, walk_stmts}
 use Rattle.vlt_resolve.specs.Elaboration as elab

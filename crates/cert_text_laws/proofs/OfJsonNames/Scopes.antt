@@ -10,7 +10,7 @@ use Rattle.vlt_core.specs.Core.{Ty, bool, Entry, KeyDecl, VarDecl, Func, Form, a
 use Rattle.vlt_kinds_types.specs.declared.names.found.Refusal.{Refusal}
 use Rattle.vlt_kinds_types.specs.Names.Refusals.{least_from}
 use Rattle.vlt_kinds_types.specs.Files.{type_named}
-use Rattle.vlt_kinds.specs.Kinds.{Kinds}
+use Rattle.vlt_kinds_types.specs.Kinds.{Kinds}
 use Rattle.vlt_resolve_exprs.specs.Scopes.{Scope, var_ty, more_var, with_name, with_key, with_var, scope_inside, scope_after}
 use Rattle.vlt_resolve_exprs.specs.Exprs.{wanted_refused}
 use Rattle.vlt_resolve_exprs.specs.Bindings.{with_vars, with_several}

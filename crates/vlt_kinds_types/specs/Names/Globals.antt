@@ -4,6 +4,9 @@ use Rattle.std.specs.Map.{lookup}
 use Rattle.std.specs.Str.{bytes_eq}
 use Rattle.vlt_syntax.specs.Tree as s
 use Rattle.vlt_syntax.specs.Tree.{Name, Decl}
+use Rattle.vlt_core.specs.declared.rules.TheConstants as rule
+use Rattle.vlt_kinds_types.specs.Names.Refusals.{refuse}
+use Rattle.vlt_kinds_types.specs.declared.names.found.Refusal.{Refusal}
 use Rattle.vlt_kinds_types.specs.declared.names.globals.Entity.{Entity}
 use Rattle.vlt_kinds_types.specs.declared.names.globals.Globals.{Globals as Seen}
 use Rattle.vlt_kinds_types.specs.declared.names.globals.Counts.{Counts as SeenCounts}
@@ -73,6 +76,10 @@ no_counts = record { sets = 0; types = 0; functions = 0 }
 
 abbrev pub globals_of : List Decl → Globals
 globals_of = globals_after [] no_counts
+
+-- where a name is declared for another time
+unfoldable pub names_again : List Decl → List Refusal
+names_again ds = refuse rule.DECLARED_AGAIN (declared_again [] no_counts ds)
 
 -- the table of the code
 abbrev pub names_seen : Seen → Globals

@@ -4,7 +4,6 @@ ghost use Rattle.std.specs.Prelude.{◌≡◌, ◌<◌, ◌^◌, ◌+◌, ◌-�
 ghost use Rattle.vlt_syntax.specs.Tree as s;
 ghost use Rattle.vlt_syntax.specs.View.{name_of, decl_of};
 ghost use Rattle.vlt_kinds_types.specs.Names.Refusals.{least_from};
-ghost use Rattle.vlt_kinds_types.specs.Names.Names.{names_again};
 ghost use Rattle.vlt_kinds_types.specs.Names.Globals.{names_seen, global_in, is_global, decl_name, global_of, counts_after, globals_of, counts_seen};
 
 use crate::names::found::LeastRefusal;
@@ -101,7 +100,7 @@ impl Counts {
 }
 
 /// The names of the whole file. A name that is declared again is refused.
-#[tactic(auto, unfolding(crate::specs::Names::Names::names_again))]
+#[tactic(auto, unfolding(crate::specs::Names::Globals::names_again))]
 pub fn known_names<'a>(
     alloc: Global,
     decls: &'a [Decl],

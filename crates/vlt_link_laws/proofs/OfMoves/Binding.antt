@@ -7,7 +7,7 @@ use Rattle.vlt_core.specs.declared.rules.TheConstants as rule
 use Rattle.vlt_link_laws.specs.CoreMoves.Moves.{Moves, moved_ty, moved_key, moved_var}
 use Rattle.vlt_kinds_types.specs.Names.Globals.{is_global}
 use Rattle.vlt_kinds_types.specs.Names.Refusals.{refusal, refuse_if}
-use Rattle.vlt_kinds.specs.Kinds.{Kinds}
+use Rattle.vlt_kinds_types.specs.Kinds.{Kinds}
 use Rattle.vlt_resolve_exprs.specs.declared.limits.TheConstants.{TOO_MANY_VARIABLES, TOO_MANY_KEYS}
 use Rattle.vlt_resolve_exprs.specs.Scopes.{Scope, tok_named, is_taken, with_var}
 use Rattle.vlt_resolve_exprs.specs.Bindings.{too_many_vars, too_many_keys, not_free, new_var_refused, new_key_refused, new_vars_refused, with_vars, numbers_from, several_refused, with_several, several_numbers}

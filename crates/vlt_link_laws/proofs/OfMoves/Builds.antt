@@ -12,7 +12,7 @@ use Rattle.vlt_core.specs.declared.rules.TheConstants as rule
 use Rattle.vlt_link_laws.specs.CoreMoves.Moves.{Moves, moved_ty, moved_case}
 use Rattle.vlt_link_laws.proofs.OfCoreMoves.Looks.{same_owner, moved_variant_of, variant_moves}
 use Rattle.vlt_kinds_types.specs.Names.Refusals.{refusal, refuse_if}
-use Rattle.vlt_kinds.specs.Kinds.{Kinds}
+use Rattle.vlt_kinds_types.specs.Kinds.{Kinds}
 use Rattle.vlt_resolve_exprs.specs.Types.{then_with, ty_under}
 use Rattle.vlt_resolve_exprs.specs.Scopes.{Scope}
 use Rattle.vlt_resolve_exprs.specs.Exprs.{expr_place, expr_refused, type_of, core_expr}

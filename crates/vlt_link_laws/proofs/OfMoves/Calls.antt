@@ -15,7 +15,7 @@ use Rattle.vlt_kinds_types.specs.declared.names.globals.Entity.{Entity}
 use Rattle.vlt_kinds_types.specs.declared.names.globals.Entity.TheVariants.{ASet, AType, AFunction}
 use Rattle.vlt_kinds_types.specs.Names.Refusals.{refuse_if}
 use Rattle.vlt_kinds_types.specs.Files.{then_with}
-use Rattle.vlt_kinds.specs.Kinds.{Kinds, as_function, function_named, head_named}
+use Rattle.vlt_kinds_types.specs.Kinds.{Kinds, as_function, function_named, head_named}
 use Rattle.vlt_resolve_exprs.specs.Types.{is_inside}
 use Rattle.vlt_resolve_exprs.specs.Scopes.{Scope}
 use Rattle.vlt_resolve_exprs.specs.Exprs.{expr_place, type_of, expr_refused, number_of}

@@ -14,7 +14,7 @@ use Rattle.vlt_kinds_types.specs.declared.shapes.Wanted.TheVariants as wanted
 use Rattle.vlt_kinds_types.specs.declared.shapes.Shape.{Shape}
 use Rattle.vlt_kinds_types.specs.Files.{wanted_type, wanted_in, header_in, set_in, shape_named, state_names}
 use Rattle.vlt_kinds_types.specs.Types.{KeyUse, sort_in, shape_in, is_unknown_or_listed, states_refused, named_refused, owned_refused, ty_refused, ty_uses, states_listed, core_ty}
-use Rattle.vlt_kinds.specs.Kinds.{Kinds}
+use Rattle.vlt_kinds_types.specs.Kinds.{Kinds}
 use Rattle.vlt_kinds_decls.specs.declared.parts.Part.{Part}
 use Rattle.vlt_kinds_decls.specs.declared.parts.Part.TheVariants as part
 use Rattle.vlt_kinds_decls.specs.Decls.{object_refused, key_type_refused, header_refused, wanted_of, disagrees, key_refused, use_refused, part_refused, typed_refused, field_refused, struct_refused, header_position, is_any, object_states_refused, case_key_refused, with_key, next_key_refused, case_refused, variant_refused}

@@ -15,7 +15,7 @@ use Rattle.vlt_core.specs.Core.{States, Ty, int, bool, tracked, owning, guarded,
 use Rattle.vlt_core.specs.Lookups.{fields_in, is_owning}
 use Rattle.vlt_core.specs.declared.rules.TheConstants as rule
 use Rattle.vlt_kinds_types.specs.Names.Refusals.{refuse_if}
-use Rattle.vlt_kinds.specs.Kinds.{Kinds}
+use Rattle.vlt_kinds_types.specs.Kinds.{Kinds}
 use Rattle.vlt_link_laws.specs.CoreMoves.Moves.{Moves, moved_ty, moved_field, moved_struct}
 use Rattle.vlt_link_laws.proofs.OfCoreMoves.Looks.{same_owner}
 use Rattle.vlt_resolve_exprs.specs.Refused.{unknown_name}

@@ -18,7 +18,7 @@ use Rattle.vlt_kinds_types.specs.declared.shapes.Wanted.TheVariants as wanted
 use Rattle.vlt_kinds_types.specs.declared.shapes.Shape.{Shape}
 use Rattle.vlt_kinds_types.specs.Files.{then_with, as_type, type_named, shape_at, shape_named, state_names, wanted_type}
 use Rattle.vlt_kinds_types.specs.Types.{is_variant, sort_in, name_refused, form_refused, states_refused, has_states, owned_states_refused, ty_place, named_refused, owned_refused, ty_refused, KeyUse, key_use, tracked_use, argument_uses, header_uses, named_uses, ty_uses, states_listed, type_number, key_numbers, is_variant_in, owned_ty, core_ty}
-use Rattle.vlt_kinds.specs.Kinds.{Kinds}
+use Rattle.vlt_kinds_types.specs.Kinds.{Kinds}
 use Rattle.vlt_link_laws.specs.Moves.Sees.{Sees, IsShapeIn, IsSort, moved_wanted}
 use Rattle.vlt_link_laws.proofs.OfMoves.Empty.{cons_not_nil, no_left, no_right, none_of_both}
 

@@ -9,7 +9,7 @@ use Rattle.vlt_link_laws.specs.CoreMoves.Moves.{Moves, moved_ty, moved_var, move
 use Rattle.vlt_kinds_types.specs.Names.Refusals.{refuse_if}
 use Rattle.vlt_kinds_types.specs.Files.{type_named}
 use Rattle.vlt_kinds_types.specs.Types.{ty_refused, ty_uses, named_refused, form_refused, ty_place}
-use Rattle.vlt_kinds.specs.Kinds.{Kinds}
+use Rattle.vlt_kinds_types.specs.Kinds.{Kinds}
 use Rattle.vlt_resolve_exprs.specs.Refused.{unknown_name}
 use Rattle.vlt_resolve_exprs.specs.Scopes.{Scope, key_named, var_named, var_ty, with_key, with_var}
 use Rattle.vlt_resolve_exprs.specs.Exprs.{number_of, var_number}

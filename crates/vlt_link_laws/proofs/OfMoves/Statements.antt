@@ -15,7 +15,7 @@ use Rattle.vlt_kinds_types.specs.Names.Refusals.{refusal, refuse_if}
 use Rattle.vlt_kinds_types.specs.declared.shapes.Shape.{Shape}
 use Rattle.vlt_kinds_types.specs.Files.{state_names, state_number}
 use Rattle.vlt_kinds_types.specs.Types.{known_states}
-use Rattle.vlt_kinds.specs.Kinds.{Kinds}
+use Rattle.vlt_kinds_types.specs.Kinds.{Kinds}
 use Rattle.vlt_resolve_exprs.specs.Refused.{unknown_name}
 use Rattle.vlt_resolve_exprs.specs.Types.{ty_under}
 use Rattle.vlt_resolve_exprs.specs.Scopes.{Scope, var_ty, more_var}

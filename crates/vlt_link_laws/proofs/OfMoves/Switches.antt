@@ -14,7 +14,7 @@ use Rattle.vlt_core.specs.declared.rules.TheConstants as rule
 use Rattle.vlt_link_laws.specs.CoreMoves.Moves.{Moves, moved_ty, moved_case, moved_key}
 use Rattle.vlt_link_laws.proofs.OfCoreMoves.Looks.{moved_variant_of, variant_moves}
 use Rattle.vlt_kinds_types.specs.Names.Refusals.{refuse_if}
-use Rattle.vlt_kinds.specs.Kinds.{Kinds}
+use Rattle.vlt_kinds_types.specs.Kinds.{Kinds}
 use Rattle.vlt_resolve_exprs.specs.Types.{then_with}
 use Rattle.vlt_resolve_exprs.specs.Scopes.{Scope, with_focus_key, with_var}
 use Rattle.vlt_resolve_exprs.specs.Bindings.{new_key_refused, new_var_refused}

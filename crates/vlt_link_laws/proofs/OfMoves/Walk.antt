@@ -9,7 +9,7 @@ use Rattle.vlt_core.specs.View.{stmts_made, arms_made}
 use Rattle.vlt_link_laws.specs.CoreMoves.Moves.{Moves, moved_ty, moved_form, moved_block, moved_stmts, moved_arms, moved_var}
 use Rattle.vlt_kinds_types.specs.declared.names.found.Refusal.{Refusal}
 use Rattle.vlt_kinds_types.specs.Names.Refusals.{is_before, least_from}
-use Rattle.vlt_kinds.specs.Kinds.{Kinds}
+use Rattle.vlt_kinds_types.specs.Kinds.{Kinds}
 use Rattle.vlt_resolve_exprs.specs.Refused.{unknown_name}
 use Rattle.vlt_resolve_exprs.specs.Scopes.{Scope, var_named, var_ty, scope_inside, scope_after, bound_in}
 use Rattle.vlt_resolve_exprs.specs.Exprs.{wanted_refused, core_expr, number_of, var_number}

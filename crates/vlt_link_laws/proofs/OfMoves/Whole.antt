@@ -7,7 +7,7 @@ use Rattle.indexmap.specs.IndexMap.{insert_entry}
 use Rattle.vlt_syntax.specs.Tree as s
 use Rattle.vlt_syntax.specs.Tree.{Name, Stmt, Right, Ty as SynTy}
 use Rattle.vlt_core.specs.Core.{Tok, a_key, a_var, Ty}
-use Rattle.vlt_kinds.specs.Kinds.{Kinds}
+use Rattle.vlt_kinds_types.specs.Kinds.{Kinds}
 use Rattle.vlt_kinds_types.specs.Files.{type_named}
 use Rattle.vlt_resolve_exprs.specs.Types.{then_with}
 use Rattle.vlt_resolve_exprs.specs.Scopes.{Scope, as_var, tok_named, var_named, ty_in, var_ty, more_key, more_var, with_key, with_var, with_focus_key, scope_inside, scope_after}

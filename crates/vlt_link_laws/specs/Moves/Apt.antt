@@ -3,7 +3,7 @@
 use Rattle.std.specs.Prelude.{[], ◌∷◌}
 use Rattle.vlt_syntax.specs.Tree as s
 use Rattle.vlt_syntax.specs.Tree.{Stmt, Block, If, Else, Stmts, Arms}
-use Rattle.vlt_kinds.specs.Kinds.{Kinds}
+use Rattle.vlt_kinds_types.specs.Kinds.{Kinds}
 use Rattle.vlt_iface.specs.Clash.{bound_names}
 use Rattle.vlt_link_laws.specs.Moves.Sees.{AreFree}
 

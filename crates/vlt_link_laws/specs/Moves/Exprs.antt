@@ -4,7 +4,7 @@ use Rattle.std.specs.Option.{option_map}
 use Rattle.vlt_syntax.specs.Tree as s
 use Rattle.vlt_core.specs.Core.{Ty}
 use Rattle.vlt_link_laws.specs.CoreMoves.Moves.{Moves, moved_ty}
-use Rattle.vlt_kinds.specs.Kinds.{Kinds}
+use Rattle.vlt_kinds_types.specs.Kinds.{Kinds}
 use Rattle.vlt_resolve_exprs.specs.Scopes.{Scope}
 use Rattle.vlt_resolve_exprs.specs.Exprs.{type_of, expr_refused, core_expr}
 use Rattle.vlt_resolve_exprs.specs.Operands.{operand_refused, core_operand}

@@ -16,7 +16,7 @@ use Rattle.vlt_kinds_types.specs.declared.shapes.Wanted.{Wanted}
 use Rattle.vlt_kinds_types.specs.declared.shapes.Wanted.TheVariants as wanted
 use Rattle.vlt_kinds_types.specs.declared.shapes.Shape.{Shape}
 use Rattle.vlt_kinds_types.specs.Files.{state_names}
-use Rattle.vlt_kinds.specs.Kinds.{Kinds, declared_program}
+use Rattle.vlt_kinds_types.specs.Kinds.{Kinds, declared_program}
 use Rattle.vlt_resolve_exprs.specs.Scopes.{Scope}
 
 module _ (m : Moves) where

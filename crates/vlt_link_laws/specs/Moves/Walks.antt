@@ -5,7 +5,7 @@ use Rattle.std.specs.Option.{option_map}
 use Rattle.vlt_syntax.specs.Tree.{Stmts}
 use Rattle.vlt_core.specs.Core.{Form}
 use Rattle.vlt_link_laws.specs.CoreMoves.Moves.{Moves, moved_ty, moved_form}
-use Rattle.vlt_kinds.specs.Kinds.{Kinds}
+use Rattle.vlt_kinds_types.specs.Kinds.{Kinds}
 use Rattle.vlt_resolve_exprs.specs.Scopes.{Scope}
 use Rattle.vlt_resolve_stmts.specs.Around.{Around}
 use Rattle.vlt_resolve.specs.Walk.Walk.{walk_stmts}

@@ -9,7 +9,7 @@ use Rattle.vlt_core.specs.Lookups.{VariantOf, variant_in}
 use Rattle.vlt_core.specs.declared.rules.TheConstants as rule
 use Rattle.vlt_kinds_types.specs.declared.names.found.Refusal.{Refusal}
 use Rattle.vlt_kinds_types.specs.Names.Refusals.{refusal, refuse_if}
-use Rattle.vlt_kinds.specs.Kinds.{Kinds}
+use Rattle.vlt_kinds_types.specs.Kinds.{Kinds}
 use Rattle.vlt_resolve_exprs.specs.Scopes.{Scope, with_focus_key, with_var}
 use Rattle.vlt_resolve_exprs.specs.Bindings.{new_key_refused, new_var_refused, several_refused, with_several, several_numbers}
 use Rattle.vlt_resolve_calls.specs.Builds.{Case, cases_of, case_of_tick}

@@ -9,8 +9,7 @@ use Rattle.vlt_syntax.specs.Tree.{Name, Decl}
 use Rattle.vlt_kinds_types.specs.declared.names.globals.Entity.{Entity}
 use Rattle.vlt_kinds_types.specs.declared.names.globals.Entity.TheVariants.{ASet, AType, AFunction}
 use Rattle.vlt_kinds_types.specs.Names.Refusals.{refuse, of_each}
-use Rattle.vlt_kinds_types.specs.Names.Globals.{Globals, global_in, is_global, decl_name, Counts, global_of, counts_after, with_declared, globals_after, declared_again, no_counts, globals_of}
-use Rattle.vlt_kinds_types.specs.Names.Names.{names_again}
+use Rattle.vlt_kinds_types.specs.Names.Globals.{Globals, global_in, is_global, decl_name, Counts, global_of, counts_after, with_declared, globals_after, declared_again, no_counts, globals_of, names_again}
 use Rattle.vlt_kinds_types.specs.Files.{as_set, set_in, sets_in}
 use Rattle.vlt_core.specs.declared.rules.TheConstants as rule
 use Rattle.vlt_resolve_laws.proofs.OfKindsLaws.Empty.{cons_not_nil}

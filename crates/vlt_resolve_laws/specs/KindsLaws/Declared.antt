@@ -6,8 +6,8 @@ use Rattle.vlt_syntax.specs.Lists.{Each}
 use Rattle.vlt_syntax.specs.Grammar.{IsDecl, language}
 use Rattle.vlt_core.specs.Core.{States, Program}
 use Rattle.vlt_core.specs.KindedHeads.{Rules, type_rows}
-use Rattle.vlt_kinds_types.specs.Names.Names.{names_again}
 use Rattle.vlt_kinds_types.specs.Files.{file_of}
+use Rattle.vlt_kinds_types.specs.Names.Globals.{names_again}
 use Rattle.vlt_kinds_decls.specs.Decls.{types_refused}
 use Rattle.vlt_resolve_laws.specs.KindsLaws.Shapes.{Describes, HasHeaders}
 use Rattle.vlt_resolve_laws.specs.KindsLaws.Said.{DeclsSay}

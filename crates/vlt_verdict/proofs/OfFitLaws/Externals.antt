@@ -6,7 +6,7 @@ use Rattle.vlt_core.specs.Core.{Func, Program}
 use Rattle.vlt_kinds_types.specs.Files.{File, file_of}
 use Rattle.vlt_kinds_heads.specs.Keys.{Keys, keys_of}
 use Rattle.vlt_kinds_heads.specs.Phase.{core_head}
-use Rattle.vlt_kinds.specs.Kinds.{Kinds}
+use Rattle.vlt_kinds_types.specs.Kinds.{Kinds}
 use Rattle.vlt_resolve_laws.specs.KindsLaws.Declared.{HasDeclared}
 use Rattle.vlt_resolve.specs.Elaboration.{elaborated}
 use Rattle.vlt_resolve_laws.specs.Made.{IsMade}

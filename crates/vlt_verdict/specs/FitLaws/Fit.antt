@@ -7,7 +7,7 @@ use Rattle.vlt_core.specs.Core.{done, Func, Program}
 use Rattle.vlt_core.specs.Kinded.{IsKinded}
 use Rattle.vlt_core.specs.Proper.{HasProperBodies}
 use Rattle.vlt_core.specs.Lookups.{fields_of}
-use Rattle.vlt_kinds.specs.Kinds.{Kinds}
+use Rattle.vlt_kinds_types.specs.Kinds.{Kinds}
 use Rattle.vlt_kinds.specs.Tables.{kinds_told}
 use Rattle.vlt_resolve.specs.Elaboration.{elaborated}
 use Rattle.vlt_core_laws.specs.Fit.{IsWellFormed}

@@ -8,7 +8,7 @@ use Rattle.vlt_kinds_types.specs.Types as t
 use Rattle.vlt_kinds_types.specs.Seen.{file_seen}
 use Rattle.vlt_kinds_decls.specs.Decls as d
 use Rattle.vlt_kinds_decls.specs.Made as m
-use Rattle.vlt_kinds_decls.specs.Known.{HasKnownSet}
+use Rattle.vlt_kinds_queries.specs.Known.{HasKnownSet}
 use Rattle.vlt_kinds_decls.specs.declared.parts.Part.TheVariants as part
 use Rattle.vlt_kinds_decls.proofs.made.core_types.Given as goal
 

@@ -5,7 +5,7 @@ use Rattle.vlt_syntax.specs.Grammar.{IsDecl, language}
 use Rattle.vlt_core.specs.View.{set_of}
 use Rattle.vlt_kinds_types.specs.Names.Refusals.{of_each}
 use Rattle.vlt_kinds_types.specs.Files as f
-use Rattle.vlt_kinds_types.specs.Small.{AreSmallSets}
+use Rattle.vlt_kinds_queries.specs.Small.{AreSmallSets}
 use Rattle.vlt_kinds_types.proofs.tables.sets_of.Given as goal
 
 abbrev pub invariant-loop-decl : goal.invariant-loop-decl

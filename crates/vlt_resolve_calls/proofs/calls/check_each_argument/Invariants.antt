@@ -1,7 +1,7 @@
 use Rattle.std.proofs.Common.{◌≡◌, drop, map}
 use Rattle.vlt_syntax.specs.View.{expr_of}
 use Rattle.vlt_core.specs.View.{ty_of}
-use Rattle.vlt_kinds.specs.Seen.{kinds_seen}
+use Rattle.vlt_kinds_types.specs.Seen.{kinds_seen}
 use Rattle.vlt_resolve_exprs.specs.Seen.{scope_seen}
 use Rattle.vlt_resolve_calls.specs.Least.{arguments_found}
 use Rattle.vlt_resolve_calls.proofs.calls.check_each_argument.Given as goal

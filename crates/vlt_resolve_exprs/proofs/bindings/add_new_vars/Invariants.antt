@@ -1,7 +1,7 @@
 use Rattle.std.proofs.Common.{◌≡◌, ◌++◌, length, drop, map}
 use Rattle.vlt_syntax.specs.View.{names_of}
 use Rattle.vlt_core.specs.View.{ty_of, vars_of}
-use Rattle.vlt_kinds.specs.Seen.{kinds_seen}
+use Rattle.vlt_kinds_types.specs.Seen.{kinds_seen}
 use Rattle.vlt_resolve_exprs.specs.Seen.{scope_seen}
 use Rattle.vlt_resolve_exprs.specs.Bindings as b
 use Rattle.vlt_resolve_exprs.specs.Least.{new_vars_found}

@@ -1,7 +1,7 @@
 use Rattle.std.proofs.Common.{◌≡◌, ◌++◌, drop, map}
 use Rattle.vlt_syntax.specs.View.{expr_of}
 use Rattle.vlt_core.specs.View.{ty_of, operand_of}
-use Rattle.vlt_kinds.specs.Seen.{kinds_seen}
+use Rattle.vlt_kinds_types.specs.Seen.{kinds_seen}
 use Rattle.vlt_resolve_exprs.specs.Seen.{scope_seen}
 use Rattle.vlt_resolve_exprs.specs.Operands as o
 use Rattle.vlt_resolve_exprs.proofs.operands.core_operands.Given as goal

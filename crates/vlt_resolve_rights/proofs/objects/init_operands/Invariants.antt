@@ -1,7 +1,7 @@
 use Rattle.std.proofs.Common.{◌≡◌, ◌++◌, drop, map}
 use Rattle.vlt_syntax.specs.View.{init_of}
 use Rattle.vlt_core.specs.View.{ty_of, operand_of}
-use Rattle.vlt_kinds.specs.Seen.{kinds_seen}
+use Rattle.vlt_kinds_types.specs.Seen.{kinds_seen}
 use Rattle.vlt_resolve_exprs.specs.Seen.{scope_seen}
 use Rattle.vlt_resolve_rights.specs.News as n
 use Rattle.vlt_resolve_rights.proofs.objects.init_operands.Given as goal

@@ -1,7 +1,7 @@
 use Rattle.std.proofs.Common.{◌≡◌, drop, map, option_map, false}
 use Rattle.vlt_syntax.specs.View.{stmts_of, arms_of}
 use Rattle.vlt_core.specs.View.{stmt_of, arm_of, ty_of}
-use Rattle.vlt_kinds.specs.Seen.{kinds_seen}
+use Rattle.vlt_kinds_types.specs.Seen.{kinds_seen}
 use Rattle.vlt_resolve_exprs.specs.Seen.{scope_seen}
 use Rattle.vlt_resolve_stmts.specs.Seen.{around_seen}
 use Rattle.vlt_resolve.specs.Walk.Walk.{walk_stmts, walk_arms}

@@ -1,5 +1,0 @@
-use Rattle.vlt_kinds_decls.proofs.OfQueries.Range.{known_at}
-use Rattle.vlt_kinds_decls.proofs.queries.declared.Declared.decl.Goals as goal
-
-pub returns-clause-known : goal.returns-clause-known
-returns-clause-known c = known_at _ _ _ _ c.args.self.now.known c.in_ok-decl.ensures.lookup.3.0 c.in_ok-decl.ensures.lookup.1
