@@ -7,12 +7,12 @@ use Rattle.vlt_core.specs.Core.{Ty, Operand, Form, Func}
 use Rattle.vlt_kinds_types.specs.Kinds.{Kinds, head_named, function_named}
 use Rattle.vlt_resolve_exprs.specs.Scopes.{Scope, var_ty}
 use Rattle.vlt_resolve_exprs.specs.Exprs.{var_number, number_of}
-use Rattle.vlt_resolve_calls.specs.Targets.{Target, core_value}
+use Rattle.vlt_resolve_exprs.specs.Targets.{Target, core_value}
 use Rattle.vlt_resolve_calls.specs.Builds.{Case, case_form, case_of_tick, core_build}
 use Rattle.vlt_resolve_calls.specs.Calls.{Use, dropped, given, head_form, callee_form, core_call}
 use Rattle.vlt_resolve_rights.specs.News.{made_operands, made_forms, new_forms}
 use Rattle.vlt_resolve_rights.specs.Adopts.{core_adopt}
-use Rattle.vlt_resolve_rights.specs.Rights.{right_forms}
+use Rattle.vlt_resolve_stmts.specs.Rights.{right_forms}
 use Rattle.vlt_resolve_stmts.specs.Around.{Around}
 use Rattle.vlt_resolve_stmts.specs.Declarations.{declare_became, keyed_became, hidden_became, declared_became, assign_became}
 use Rattle.vlt_resolve_stmts.specs.Statements.{core_put, release_form, core_become, core_swap, opened_parts, opened_became, open_became, returned_value, returned_build, return_became, simple_became}

@@ -18,15 +18,13 @@ ghost use Rattle.vlt_kinds_queries.specs.Marks.{AreMarks};
 ghost use Rattle.vlt_kinds.specs.Tables.{names_told, OnRefused};
 
 use crate::error::KindError;
-use vlt_kinds_types::Kinds;
 use std::alloc::Global;
 use vlt_base::Items;
 use vlt_core::{Func, TypeDecl};
-use vlt_kinds_decls::{check_types, core_types};
-use vlt_kinds_queries::Declared;
+use vlt_kinds_decls::{check_names, check_types, core_types};
 use vlt_kinds_heads::check_heads;
-use vlt_kinds_types::{File, LeastRefusal, file_of};
-use vlt_kinds_decls::check_names;
+use vlt_kinds_queries::Declared;
+use vlt_kinds_types::{File, Kinds, LeastRefusal, file_of};
 use vlt_syntax::Decl;
 
 /// Nothing, unless something was refused.

@@ -9,17 +9,16 @@ ghost use Rattle.vlt_resolve_exprs.specs.Seen.{scope_seen};
 ghost use Rattle.vlt_resolve.specs.Elaboration as e;
 ghost use Rattle.vlt_resolve.specs.Walk.Refusals.{OnRefused};
 
-use crate::copies::{copy_func, copy_keys, copy_vars, func_of_head};
 use crate::walk::{Stop, block_ends, closing, passed, walk_stmts};
 use indexmap::IndexMap;
 use std::alloc::{AllocError, Global};
 use vlt_base::{FnId, Items, KeyId, VarId};
 use vlt_core::rules::NO_END;
 use vlt_core::{Entry, Form, Func, KeyDecl, Mode, Tok, VarDecl};
-use vlt_kinds_types::Kinds;
-use vlt_kinds_types::LeastRefusal;
+use vlt_kinds_types::{Kinds, LeastRefusal};
 use vlt_resolve_exprs::Scope;
 use vlt_resolve_exprs::limits::{TOO_MANY_KEYS, TOO_MANY_VARIABLES};
+use vlt_resolve_parts::{copy_func, copy_keys, copy_vars, func_of_head};
 use vlt_resolve_stmts::Around;
 use vlt_syntax::{Block, Decl};
 

@@ -1,5 +1,5 @@
 //! Elaboration: a tree and the table of its kinds in, the core program out, or the first rule or limit that refuses a body.
-//! Read `specs/Elaboration.antt` first, then `specs/Walk/Walk.antt`; `switches` and `copies` serve the walk over a body.
+//! Read `specs/Elaboration.antt` first, then `specs/Walk/Walk.antt`.
 //! Used by: the check, the runs and the lowering, which take the program that comes out.
 #![tactic(auto)]
 
@@ -11,21 +11,18 @@ ghost use Rattle.vlt_resolve.specs.Elaboration.{elaborated, told_of, walk_tree};
 ghost use Rattle.vlt_resolve.specs.Refusals.{OnTold, error_seen};
 ghost use Rattle.vlt_resolve.specs.Walk.Refusals.{OnRefused};
 
-mod copies;
 mod error;
 mod functions;
-mod switches;
 mod walk;
 
-use crate::copies::{copy_decls, copy_sets};
 use crate::walk::Stop;
 pub use error::ElabError;
 use std::alloc::Global;
 use vlt_base::{KEYS, VARIABLES};
 use vlt_core::Program;
-use vlt_kinds_types::Kinds;
-use vlt_kinds_types::Refusal;
+use vlt_kinds_types::{Kinds, Refusal};
 use vlt_resolve_exprs::limits::{TOO_MANY_KEYS, TOO_MANY_VARIABLES};
+use vlt_resolve_parts::{copy_decls, copy_sets};
 use vlt_syntax::Tree;
 
 fn program(alloc: Global, tree: &Tree, kinds: &Kinds<'_>) -> Result<Program, Stop>

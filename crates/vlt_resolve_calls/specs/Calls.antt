@@ -15,7 +15,7 @@ use Rattle.vlt_resolve_exprs.specs.Types.{is_inside}
 use Rattle.vlt_resolve_exprs.specs.Scopes.{Scope}
 use Rattle.vlt_resolve_exprs.specs.Exprs.{type_of, expr_refused, expr_place, number_of}
 use Rattle.vlt_resolve_exprs.specs.Operands.{core_operands}
-use Rattle.vlt_resolve_calls.specs.Targets.{Target}
+use Rattle.vlt_resolve_exprs.specs.Targets.{Target}
 
 -- ---- types that are the same but for their keys
 

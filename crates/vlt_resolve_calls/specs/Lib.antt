@@ -1,4 +1,3 @@
-pub mod Targets
 pub mod Builds
 pub mod Calls
 pub mod Seen

@@ -1,20 +1,13 @@
 -- What the code hands over, as plain data.
-use Rattle.std.specs.Prelude.{List, [], ◌∷◌, map}
+use Rattle.std.specs.Prelude.{List, map}
 use Rattle.vlt_base.specs.declared.ids.KeyId.{KeyId}
-use Rattle.vlt_core.specs.Core.{Form}
-use Rattle.vlt_core.specs.View.{ty_of, form_of}
-use Rattle.vlt_resolve_calls.specs.Targets as t
+use Rattle.vlt_core.specs.View.{ty_of}
+use Rattle.vlt_resolve_exprs.specs.Seen.{target_seen}
 use Rattle.vlt_resolve_calls.specs.Builds as b
 use Rattle.vlt_resolve_calls.specs.Calls as c
-use Rattle.vlt_resolve_calls.specs.declared.targets.Target.{Target}
 use Rattle.vlt_resolve_calls.specs.declared.builds.Case.{Case}
-use Rattle.vlt_resolve_calls.specs.declared.forms.Forms.{Forms}
-use Rattle.vlt_resolve_calls.specs.declared.forms.Forms.TheVariants as forms
 use Rattle.vlt_resolve_calls.specs.declared.calls.Use.{Use}
 use Rattle.vlt_resolve_calls.specs.declared.calls.Use.TheVariants as the_use
-
-abbrev pub target_seen : Target → t.Target
-target_seen x = record { ty = ty_of x.ty; binds = x.binds }
 
 abbrev pub case_seen : Case → b.Case
 case_seen c = record { number = c.number; payload = map ty_of c.payload }
@@ -28,8 +21,3 @@ pair_of p = (p.0.0, p.1.0)
 
 abbrev pub pairs_of : List (KeyId × KeyId) → List c.Pair
 pairs_of = map pair_of
-
-abbrev pub forms_of : Forms → List Form
-forms_of forms.Nothing = []
-forms_of (forms.One form) = form_of form ∷ []
-forms_of (forms.Two first second) = form_of first ∷ form_of second ∷ []

@@ -16,8 +16,7 @@ use std::alloc::{AllocError, Global};
 use vlt_base::{Items, KeyId, TypeId, VarId};
 use vlt_core::rules::{WRONG_COUNT, WRONG_TYPE};
 use vlt_core::{CaseDecl, Form, Ty, TypeDecl};
-use vlt_kinds_types::Kinds;
-use vlt_kinds_types::LeastRefusal;
+use vlt_kinds_types::{Kinds, LeastRefusal};
 use vlt_resolve_exprs::{Scope, check_operands, core_operands, ty_under};
 use vlt_syntax::{Build, Name};
 

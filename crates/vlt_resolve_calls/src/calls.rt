@@ -10,23 +10,21 @@ ghost use Rattle.vlt_core.specs.View.{ty_of, entry_of, func_of, form_of};
 ghost use Rattle.vlt_kinds_types.specs.Names.Refusals.{least_from, refusal, refuse_if};
 ghost use Rattle.vlt_kinds_types.specs.Seen.{kinds_seen};
 ghost use Rattle.vlt_resolve_exprs.specs.Exprs.{number_of};
-ghost use Rattle.vlt_resolve_exprs.specs.Seen.{scope_seen};
+ghost use Rattle.vlt_resolve_exprs.specs.Seen.{scope_seen, target_seen};
 ghost use Rattle.vlt_resolve_calls.specs.Calls as c;
 ghost use Rattle.vlt_resolve_calls.specs.Least.{arguments_found};
-ghost use Rattle.vlt_resolve_calls.specs.Seen.{pairs_of, target_seen, use_seen};
+ghost use Rattle.vlt_resolve_calls.specs.Seen.{pairs_of, use_seen};
 
 use crate::matching::{
     Pair, add_paired, call_pairs, check_matching, keys_fit, keys_given, keys_of_ty, same_shape,
     takes_shape,
 };
-use crate::targets::Target;
 use std::alloc::{AllocError, Global};
 use vlt_base::{FnId, Items, KeyId, VarId};
 use vlt_core::rules::{DROPPED_RESULT, UNKNOWN_NAME, WRONG_COUNT, WRONG_TYPE};
 use vlt_core::{Entry, Form, Func, Mode, Ty};
-use vlt_kinds_types::Kinds;
-use vlt_kinds_types::LeastRefusal;
-use vlt_resolve_exprs::{Scope, check_any, copy_ty, core_operands, is_owning, place};
+use vlt_kinds_types::{Kinds, LeastRefusal};
+use vlt_resolve_exprs::{Scope, Target, check_any, copy_ty, core_operands, is_owning, place};
 use vlt_syntax::{Call, Expr};
 
 /// What is done with the result of a call.

@@ -17,8 +17,7 @@ use std::alloc::{AllocError, Global};
 use vlt_base::{Items, KeyId, StateSet, TypeId};
 use vlt_core::rules::{CLAUSE_KEYS_MEET, TWO_CALLER_KEYS};
 use vlt_core::{Entry, KeyDecl, Ty};
-use vlt_kinds_types::Kinds;
-use vlt_kinds_types::LeastRefusal;
+use vlt_kinds_types::{Kinds, LeastRefusal};
 use vlt_resolve_exprs::{Scope, lies_within, type_of};
 use vlt_syntax::Expr;
 

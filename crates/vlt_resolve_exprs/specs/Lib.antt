@@ -6,3 +6,4 @@ pub mod Operands
 pub mod Bindings
 pub mod Seen
 pub mod Least
+pub mod Targets

@@ -16,8 +16,7 @@ use std::alloc::{AllocError, Global};
 use vlt_base::{Items, VarId};
 use vlt_core::Ty;
 use vlt_core::rules::{NAME_TAKEN, WRONG_COUNT};
-use vlt_kinds_types::Kinds;
-use vlt_kinds_types::LeastRefusal;
+use vlt_kinds_types::{Kinds, LeastRefusal};
 use vlt_syntax::Name;
 
 #[tactic(auto, unfolding(crate::specs::Bindings::too_many_vars))]

@@ -21,8 +21,7 @@ use std::alloc::{AllocError, Global};
 use vlt_base::{Boxed, KeyId, TypeId, VarId};
 use vlt_core::rules::{GUARDED_FIELD, UNKNOWN_NAME, WRONG_SWAP, WRONG_TYPE};
 use vlt_core::{FieldDecl, Ty, TypeDecl};
-use vlt_kinds_types::Kinds;
-use vlt_kinds_types::LeastRefusal;
+use vlt_kinds_types::{Kinds, LeastRefusal};
 use vlt_ops::{Op, Takes, row};
 use vlt_syntax::{Expr, Name, Operands};
 

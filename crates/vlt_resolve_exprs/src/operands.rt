@@ -18,8 +18,7 @@ use std::alloc::{AllocError, Global};
 use vlt_base::{Items, StateSet, VarId};
 use vlt_core::rules::WRONG_TYPE;
 use vlt_core::{self, Operand, Ty};
-use vlt_kinds_types::Kinds;
-use vlt_kinds_types::LeastRefusal;
+use vlt_kinds_types::{Kinds, LeastRefusal};
 use vlt_syntax::Expr;
 
 #[tactic(auto, unfolding(crate::specs::Operands::misfit))]

@@ -14,8 +14,7 @@ use std::alloc::{AllocError, Global};
 use std::mem;
 use vlt_base::{Items, KeyId, TypeId, VarId};
 use vlt_core::{KeyDecl, Tok, Ty, VarDecl};
-use vlt_kinds_types::Kinds;
-use vlt_kinds_types::KeyNumbers;
+use vlt_kinds_types::{KeyNumbers, Kinds};
 
 /// The names in scope, all keys and variables of the function so far, and those that the innermost block binds.
 #[derive(Drop)]

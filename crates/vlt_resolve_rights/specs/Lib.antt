@@ -1,5 +1,4 @@
 pub mod Droppable
 pub mod News
 pub mod Adopts
-pub mod Rights
 pub mod Least

@@ -22,7 +22,7 @@ use Rattle.vlt_resolve_exprs.specs.Scopes.{Scope, key_named, key_type, var_named
 use Rattle.vlt_resolve_exprs.specs.Exprs.{fields_of, number_of, var_number}
 use Rattle.vlt_resolve_exprs.specs.Operands.{operand_refused, core_operand}
 use Rattle.vlt_resolve_exprs.specs.Bindings.{too_many_keys, too_many_vars}
-use Rattle.vlt_resolve_calls.specs.Targets.{Target}
+use Rattle.vlt_resolve_exprs.specs.Targets.{Target}
 
 -- ---- keys after a type's name
 

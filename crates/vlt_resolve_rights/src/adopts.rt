@@ -13,8 +13,7 @@ use crate::objects::guards;
 use vlt_base::VarId;
 use vlt_core::rules::{WRONG_RELEASE, WRONG_TYPE};
 use vlt_core::{Form, Ty};
-use vlt_kinds_types::Kinds;
-use vlt_kinds_types::LeastRefusal;
+use vlt_kinds_types::{Kinds, LeastRefusal};
 use vlt_resolve_exprs::{Scope, check_known, same_object, var_number};
 use vlt_syntax::Name;
 

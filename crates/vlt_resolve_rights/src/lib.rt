@@ -1,16 +1,15 @@
-//! Right sides: one of the tree, its target and the names in scope in, the least refusal and the core forms out.
-//! Read `specs/News.antt` first, then `Adopts` and `Rights`.
-//! Used by: the elaboration of statements.
+//! New objects and adoptions: a right side that makes one, its target and the names in scope in, the least refusal and the core forms out.
+//! Read `specs/News.antt` first, then `Adopts`.
+//! Used by: the elaboration of right sides and of statements.
 #![tactic(auto)]
 
 mod adopts;
 pub mod droppable;
 mod news;
 mod objects;
-mod rights;
 mod uses;
 
-pub use news::{add_hidden, check_hidden, new_forms};
+pub use adopts::{check_adopt, core_adopt};
+pub use news::{add_hidden, check_hidden, check_new, new_forms};
 pub use objects::known_args;
-pub use rights::{right, right_for};
 pub use uses::check_uses;

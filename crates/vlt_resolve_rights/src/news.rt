@@ -8,9 +8,8 @@ ghost use Rattle.vlt_kinds_types.specs.Names.Refusals.{least_from};
 ghost use Rattle.vlt_kinds_types.specs.Files.{type_named};
 ghost use Rattle.vlt_kinds_types.specs.Seen.{kinds_seen};
 ghost use Rattle.vlt_resolve_exprs.specs.Exprs.{number_of};
-ghost use Rattle.vlt_resolve_exprs.specs.Seen.{scope_seen};
+ghost use Rattle.vlt_resolve_exprs.specs.Seen.{scope_seen, forms_of, target_seen};
 ghost use Rattle.vlt_resolve_rights.specs.News as n;
-ghost use Rattle.vlt_resolve_calls.specs.Seen.{forms_of, target_seen};
 
 use crate::droppable::may_drop_struct;
 use crate::objects::{
@@ -21,11 +20,10 @@ use std::alloc::{AllocError, Global};
 use vlt_base::{Boxed, Items, KeyId, TypeId, VarId};
 use vlt_core::rules::{WRONG_COUNT, WRONG_NEW, WRONG_RELEASE, WRONG_TYPE};
 use vlt_core::{FieldDecl, Form, Operand, Ty, TypeDecl};
-use vlt_kinds_types::Kinds;
-use vlt_kinds_types::LeastRefusal;
-use vlt_resolve_calls::{Forms, Target};
+use vlt_kinds_types::{Kinds, LeastRefusal};
 use vlt_resolve_exprs::{
-    Scope, check_known, check_too_many_keys, check_too_many_vars, fields_of, is_struct, var_number,
+    Forms, Scope, Target, check_known, check_too_many_keys, check_too_many_vars, fields_of,
+    is_struct, var_number,
 };
 use vlt_syntax::{Init, Name, Named, Right};
 

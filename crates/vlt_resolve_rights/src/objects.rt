@@ -12,8 +12,7 @@ ghost use Rattle.vlt_resolve_rights.specs.News as n;
 use std::alloc::{AllocError, Global};
 use vlt_base::{Items, KeyId, TypeId};
 use vlt_core::{FieldDecl, Operand, Ty};
-use vlt_kinds_types::Kinds;
-use vlt_kinds_types::{LeastRefusal, Shape};
+use vlt_kinds_types::{Kinds, LeastRefusal, Shape};
 use vlt_resolve_exprs::{Scope, check_operand, core_operand, same_keys, ty_under};
 use vlt_syntax::{Init, Name, Named};
 

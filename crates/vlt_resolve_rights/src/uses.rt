@@ -11,8 +11,7 @@ ghost use Rattle.vlt_resolve_rights.specs.News as n;
 
 use vlt_base::TypeId;
 use vlt_core::rules::{KEY_ARGUMENT, KEY_COUNT, NOT_A_TYPE, TWO_KEY_TYPES, UNKNOWN_NAME};
-use vlt_kinds_types::Kinds;
-use vlt_kinds_types::{KeyUse, LeastRefusal, Shape, Wanted};
+use vlt_kinds_types::{KeyUse, Kinds, LeastRefusal, Shape, Wanted};
 use vlt_resolve_exprs::Scope;
 use vlt_syntax::{Name, Named};
 

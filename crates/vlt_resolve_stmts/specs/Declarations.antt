@@ -12,9 +12,9 @@ use Rattle.vlt_resolve_exprs.specs.Refused.{unknown_name}
 use Rattle.vlt_resolve_exprs.specs.Scopes.{Scope, key_named, var_named, var_ty, with_key, with_var}
 use Rattle.vlt_resolve_exprs.specs.Exprs.{number_of, var_number}
 use Rattle.vlt_resolve_exprs.specs.Bindings.{new_key_refused, new_var_refused}
-use Rattle.vlt_resolve_calls.specs.Targets.{Target}
+use Rattle.vlt_resolve_exprs.specs.Targets.{Target}
 use Rattle.vlt_resolve_rights.specs.News.{uses_refused, hides, hidden_refused, with_hidden}
-use Rattle.vlt_resolve_rights.specs.Rights.{right_refused, right_forms}
+use Rattle.vlt_resolve_stmts.specs.Rights.{right_refused, right_forms}
 
 -- what a statement becomes, and the scope after it
 abbrev pub Became : Type 0

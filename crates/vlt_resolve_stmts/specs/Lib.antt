@@ -2,3 +2,4 @@ pub mod Around
 pub mod Declarations
 pub mod Statements
 pub mod Seen
+pub mod Rights

@@ -7,8 +7,7 @@ ghost use Rattle.vlt_kinds_types.specs.Names.Refusals.{least_from};
 ghost use Rattle.vlt_kinds_types.specs.Seen.{kinds_seen};
 ghost use Rattle.vlt_resolve_exprs.specs.Exprs as e;
 ghost use Rattle.vlt_resolve_exprs.specs.Scopes.{var_ty};
-ghost use Rattle.vlt_resolve_exprs.specs.Seen.{scope_seen};
-ghost use Rattle.vlt_resolve_calls.specs.Seen.{forms_of};
+ghost use Rattle.vlt_resolve_exprs.specs.Seen.{scope_seen, forms_of};
 ghost use Rattle.vlt_resolve_stmts.specs.Statements as s;
 
 use std::alloc::{AllocError, Global};
@@ -17,12 +16,10 @@ use vlt_core::rules::{
     NOT_A_STATE, UNKNOWN_NAME, WRONG_BECOME, WRONG_RELEASE, WRONG_SWAP, WRONG_TYPE,
 };
 use vlt_core::{FieldDecl, Form, Ty};
-use vlt_kinds_types::Kinds;
-use vlt_kinds_types::LeastRefusal;
-use vlt_resolve_calls::Forms;
+use vlt_kinds_types::{Kinds, LeastRefusal};
 use vlt_resolve_exprs::{
-    Scope, check_field, check_known, check_wanted, core_expr, field_at, field_named, is_owning,
-    is_struct, same_ty, ty_under, var_number,
+    Forms, Scope, check_field, check_known, check_wanted, core_expr, field_at, field_named,
+    is_owning, is_struct, same_ty, ty_under, var_number,
 };
 use vlt_resolve_rights::droppable::{may_drop, may_drop_struct};
 use vlt_syntax::{Expr, Name};

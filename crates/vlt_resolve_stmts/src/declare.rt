@@ -8,20 +8,20 @@ ghost use Rattle.vlt_kinds_types.specs.Seen.{kinds_seen};
 ghost use Rattle.vlt_resolve_exprs.specs.Exprs.{var_number};
 ghost use Rattle.vlt_resolve_exprs.specs.Refused.{unknown_name};
 ghost use Rattle.vlt_resolve_exprs.specs.Scopes.{var_named, var_ty, with_var};
-ghost use Rattle.vlt_resolve_exprs.specs.Seen.{scope_seen};
-ghost use Rattle.vlt_resolve_calls.specs.Seen.{forms_of, target_seen};
+ghost use Rattle.vlt_resolve_exprs.specs.Seen.{scope_seen, forms_of, target_seen};
 ghost use Rattle.vlt_resolve_rights.specs.News.{hides, hidden_refused, with_hidden};
-ghost use Rattle.vlt_resolve_rights.specs.Rights.{right_refused, right_forms};
+ghost use Rattle.vlt_resolve_stmts.specs.Rights.{right_refused, right_forms};
 ghost use Rattle.vlt_resolve_stmts.specs.Declarations as d;
 
+use crate::rights::{right, right_for};
 use std::alloc::{AllocError, Global};
 use vlt_base::{Items, TypeId, VarId};
 use vlt_core::rules::UNKNOWN_NAME;
-use vlt_kinds_types::Kinds;
-use vlt_kinds_types::LeastRefusal;
-use vlt_resolve_calls::{Forms, Target};
-use vlt_resolve_exprs::{Scope, check_new_key, check_new_var, copied, copy_ty, known_or_first};
-use vlt_resolve_rights::{add_hidden, check_hidden, check_uses, right, right_for};
+use vlt_kinds_types::{Kinds, LeastRefusal};
+use vlt_resolve_exprs::{
+    Forms, Scope, Target, check_new_key, check_new_var, copied, copy_ty, known_or_first,
+};
+use vlt_resolve_rights::{add_hidden, check_hidden, check_uses};
 use vlt_syntax::{Name, Right, Ty};
 
 fn binds_key(scope: &Scope<'_>, ty: &Ty) -> bool

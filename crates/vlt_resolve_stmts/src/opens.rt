@@ -6,19 +6,16 @@ ghost use Rattle.vlt_core.specs.View.{ty_of, field_of, keys_of};
 ghost use Rattle.vlt_kinds_types.specs.Names.Refusals.{least_from};
 ghost use Rattle.vlt_kinds_types.specs.Seen.{kinds_seen};
 ghost use Rattle.vlt_resolve_exprs.specs.Scopes.{var_ty};
-ghost use Rattle.vlt_resolve_exprs.specs.Seen.{scope_seen};
-ghost use Rattle.vlt_resolve_calls.specs.Seen.{forms_of};
+ghost use Rattle.vlt_resolve_exprs.specs.Seen.{scope_seen, forms_of};
 ghost use Rattle.vlt_resolve_stmts.specs.Statements as s;
 
 use std::alloc::{AllocError, Global};
 use vlt_base::{Items, KeyId, TypeId};
 use vlt_core::rules::{UNKNOWN_NAME, WRONG_RELEASE};
 use vlt_core::{FieldDecl, Form, Ty};
-use vlt_kinds_types::Kinds;
-use vlt_kinds_types::LeastRefusal;
-use vlt_resolve_calls::Forms;
+use vlt_kinds_types::{Kinds, LeastRefusal};
 use vlt_resolve_exprs::{
-    Scope, add_several, fields_of, is_owning, is_struct, ty_under, var_number,
+    Forms, Scope, add_several, fields_of, is_owning, is_struct, ty_under, var_number,
 };
 use vlt_syntax::Name;
 

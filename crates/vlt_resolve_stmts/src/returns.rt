@@ -7,10 +7,9 @@ ghost use Rattle.vlt_core.specs.Lookups.{is_given_back};
 ghost use Rattle.vlt_core.specs.View.{ty_of, entry_of, form_of, operand_of};
 ghost use Rattle.vlt_kinds_types.specs.Names.Refusals.{least_from};
 ghost use Rattle.vlt_kinds_types.specs.Seen.{kinds_seen};
-ghost use Rattle.vlt_resolve_exprs.specs.Seen.{scope_seen};
+ghost use Rattle.vlt_resolve_exprs.specs.Seen.{scope_seen, forms_of};
 ghost use Rattle.vlt_resolve_exprs.specs.Scopes.{more_var};
 ghost use Rattle.vlt_resolve_calls.specs.Builds as b;
-ghost use Rattle.vlt_resolve_calls.specs.Seen.{forms_of};
 ghost use Rattle.vlt_resolve_stmts.specs.Statements as s;
 ghost use Rattle.vlt_resolve_stmts.specs.Seen.{around_seen};
 
@@ -19,12 +18,11 @@ use std::alloc::{AllocError, Global};
 use vlt_base::{Boxed, KeyId, VarId};
 use vlt_core::rules::{RETURNED_KEY, WRONG_JUMP, WRONG_RETURN, WRONG_TYPE};
 use vlt_core::{Entry, Expr as CoreExpr, Form, Mode, Operand, Ty};
-use vlt_kinds_types::Kinds;
-use vlt_kinds_types::LeastRefusal;
-use vlt_resolve_calls::{Forms, build, has_fresh};
+use vlt_kinds_types::{Kinds, LeastRefusal};
+use vlt_resolve_calls::{build, has_fresh};
 use vlt_resolve_exprs::{
-    Scope, check_any, check_operand, check_too_many_vars, copy_ty, core_operand, is_owning, place,
-    same_object,
+    Forms, Scope, check_any, check_operand, check_too_many_vars, copy_ty, core_operand, is_owning,
+    place, same_object,
 };
 use vlt_syntax::{Build, Expr, Returned};
 

@@ -6,9 +6,8 @@ ghost use Rattle.vlt_core.specs.Core as core;
 ghost use Rattle.vlt_kinds_types.specs.Names.Refusals.{least_from};
 ghost use Rattle.vlt_kinds_types.specs.Seen.{kinds_seen};
 ghost use Rattle.vlt_resolve_exprs.specs.Exprs as e;
-ghost use Rattle.vlt_resolve_exprs.specs.Seen.{scope_seen};
+ghost use Rattle.vlt_resolve_exprs.specs.Seen.{scope_seen, forms_of};
 ghost use Rattle.vlt_resolve_calls.specs.Calls as c;
-ghost use Rattle.vlt_resolve_calls.specs.Seen.{forms_of};
 ghost use Rattle.vlt_resolve_stmts.specs.Seen.{around_seen};
 ghost use Rattle.vlt_resolve_stmts.specs.Statements as s;
 
@@ -20,10 +19,9 @@ use crate::returns::return_stmt;
 use std::alloc::{AllocError, Global};
 use vlt_core::rules::WRONG_JUMP;
 use vlt_core::{Form, Ty};
-use vlt_kinds_types::Kinds;
-use vlt_kinds_types::LeastRefusal;
-use vlt_resolve_calls::{Forms, Use, call};
-use vlt_resolve_exprs::{Scope, check_wanted, core_expr};
+use vlt_kinds_types::{Kinds, LeastRefusal};
+use vlt_resolve_calls::{Use, call};
+use vlt_resolve_exprs::{Forms, Scope, check_wanted, core_expr};
 use vlt_syntax::{Call, Expr, Stmt};
 
 #[tactic(auto, unfolding(crate::specs::Statements::jump_refused))]

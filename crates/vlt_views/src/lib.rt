@@ -24,9 +24,8 @@ use std::alloc::Global;
 use vlt_core::Program;
 use vlt_iface::{RAISE, View};
 use vlt_kinds::KindError;
-use vlt_kinds_types::Kinds;
-use vlt_kinds_types::rules;
 use vlt_kinds_decls::has_main;
+use vlt_kinds_types::{Kinds, rules};
 use vlt_resolve::{ElabError, elaborate};
 
 /// What a view declares, by the rules on names, on types and on heads. The rule on `main` isn't tested.

@@ -17,12 +17,11 @@ use crate::hidden::check_own;
 use std::alloc::Global;
 use vlt_base::Items;
 use vlt_core::{Func, TypeDecl};
-use vlt_kinds::phases::{table_of, told, type_table};
 use vlt_kinds::KindError;
-use vlt_kinds_types::Kinds;
-use vlt_kinds_heads::check_heads;
-use vlt_kinds_types::{File, LeastRefusal, file_of};
+use vlt_kinds::phases::{table_of, told, type_table};
 use vlt_kinds_decls::check_other_names;
+use vlt_kinds_heads::check_heads;
+use vlt_kinds_types::{File, Kinds, LeastRefusal, file_of};
 use vlt_syntax::Decl;
 
 /// What a view declares, where no rule on names refuses it.

@@ -17,7 +17,7 @@ use Rattle.vlt_resolve_exprs.specs.Types.{then_with, ty_under}
 use Rattle.vlt_resolve_exprs.specs.Scopes.{Scope}
 use Rattle.vlt_resolve_exprs.specs.Exprs.{expr_place, expr_refused, type_of, core_expr}
 use Rattle.vlt_resolve_exprs.specs.Operands.{operands_refused, variable_in}
-use Rattle.vlt_resolve_calls.specs.Targets.{Target, target_takes, value_misfit, value_refused, value_form, core_value}
+use Rattle.vlt_resolve_exprs.specs.Targets.{Target, target_takes, value_misfit, value_refused, value_form, core_value}
 use Rattle.vlt_resolve_calls.specs.Builds.{cases_of, case_position, Case, payload_in, case_at, case_in, case_of_tick, payload_refused, case_refused, build_refused, case_form, core_build}
 use Rattle.vlt_link_laws.specs.Moves.Sees.{Sees, moved_scope}
 use Rattle.vlt_link_laws.proofs.OfMoves.Empty.{cons_not_nil, no_left, no_right, none_of_both}

@@ -20,7 +20,7 @@ use Rattle.vlt_resolve_exprs.specs.Types.{is_inside}
 use Rattle.vlt_resolve_exprs.specs.Scopes.{Scope}
 use Rattle.vlt_resolve_exprs.specs.Exprs.{expr_place, type_of, expr_refused, number_of}
 use Rattle.vlt_resolve_exprs.specs.Operands.{core_operands}
-use Rattle.vlt_resolve_calls.specs.Targets.{Target}
+use Rattle.vlt_resolve_exprs.specs.Targets.{Target}
 use Rattle.vlt_resolve_calls.specs.Calls.{same_length, same_kind, same_shape, takes_kind, takes_shape, Pair, key_pairs, keys_handed, fitting_pairs, argument_pairs, call_pairs, caller_key, keys_fit, argument_misfit, argument_refused, arguments_refused, Use, dropped, given, has_fresh, dropped_refused, result_fits, is_same, target_fits, use_refused, count_refused, matching_refused, param_types, paired_refused, full_call_refused, head_refused, callee_refused, call_refused, own_key, fresh_key, keys_given, head_form, callee_form, core_call}
 use Rattle.vlt_link_laws.specs.Moves.Sees.{Sees, IsHeadIn, moved_scope}
 use Rattle.vlt_link_laws.proofs.OfMoves.Empty.{cons_not_nil, no_left, no_right, none_of_both}

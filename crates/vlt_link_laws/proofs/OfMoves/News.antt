@@ -19,7 +19,7 @@ use Rattle.vlt_resolve_exprs.specs.Refused.{unknown_name}
 use Rattle.vlt_resolve_exprs.specs.Scopes.{Scope, key_named, key_type, var_named, var_ty, more_key, more_var}
 use Rattle.vlt_resolve_exprs.specs.Exprs.{fields_of, number_of, var_number}
 use Rattle.vlt_resolve_exprs.specs.Operands.{operand_refused}
-use Rattle.vlt_resolve_calls.specs.Targets.{Target}
+use Rattle.vlt_resolve_exprs.specs.Targets.{Target}
 use Rattle.vlt_resolve_rights.specs.Droppable.{may_drop_struct}
 use Rattle.vlt_resolve_rights.specs.News.{typed_refused, wanted_refused, known_refused, use_refused, uses_refused, named_refused, with_known, known_keys, keys_of_shape, known_args, args_fit, object_fits, target_fits, target_refused, guards, recipient_unfit, recipient_refused, adopter_refused, agree, fields_agree, releases_first, takes_first, adopted_refused, start_refused, inits_refused, field_types, values_refused, struct_refused, object_refused, known_made_refused, made_refused, is_some_name, new_refused, hides, hidden_refused, args_or_none, with_object, init_operands, made_operands, made_forms, new_forms}
 use Rattle.vlt_resolve_rights.specs.Adopts as ad

@@ -14,12 +14,12 @@ use Rattle.vlt_resolve_exprs.specs.Refused.{unknown_name}
 use Rattle.vlt_resolve_exprs.specs.Scopes.{Scope, key_named, var_named, var_ty, with_key, with_var}
 use Rattle.vlt_resolve_exprs.specs.Exprs.{number_of, var_number}
 use Rattle.vlt_resolve_exprs.specs.Bindings.{new_key_refused, new_var_refused}
-use Rattle.vlt_resolve_calls.specs.Targets.{Target, core_value}
+use Rattle.vlt_resolve_exprs.specs.Targets.{Target, core_value}
 use Rattle.vlt_resolve_calls.specs.Builds.{Case, case_of_tick, case_form, core_build}
 use Rattle.vlt_resolve_rights.specs.Adopts.{core_adopt}
 use Rattle.vlt_resolve_calls.specs.Calls.{given}
 use Rattle.vlt_resolve_rights.specs.News.{uses_refused, hides, hidden_refused, with_object, with_hidden}
-use Rattle.vlt_resolve_rights.specs.Rights.{input_refused, target_right_refused, right_refused, target_right_forms, right_forms}
+use Rattle.vlt_resolve_stmts.specs.Rights.{input_refused, target_right_refused, right_refused, target_right_forms, right_forms}
 use Rattle.vlt_resolve_stmts.specs.Declarations.{Became, is_known_key, binds_key, bound_key_refused, with_bound_key, type_refused, key_number, declared_ty, declared_target, hidden_right_refused, declared_refused, declared_became, hidden_became, keyed_refused, keyed_became, declare_refused, declare_became, plain_target, assigned_target, assign_refused, assign_became}
 use Rattle.vlt_iface.specs.Clash.{key_bound}
 use Rattle.vlt_link_laws.specs.Moves.Sees.{Sees, moved_scope, IsFree, AreFree}

@@ -18,7 +18,7 @@ use Rattle.vlt_resolve_stmts.specs.Around.{Around, inside_loop, inside_focus}
 use Rattle.vlt_resolve_stmts.specs.Declarations.{Became, assign_refused}
 use Rattle.vlt_resolve_stmts.specs.Statements.{simple_refused, simple_became}
 use Rattle.vlt_resolve.specs.Walk.Blocks.{stmt_place, ends, closing, else_closing}
-use Rattle.vlt_resolve.specs.Switches.Switches.{arm_names, switch_refused, arm_case, arm_refused, arm_scope, arm_numbers, case_number, focus_refused, bound_scope}
+use Rattle.vlt_resolve_parts.specs.Switches.{arm_names, switch_refused, arm_case, arm_refused, arm_scope, arm_numbers, case_number, focus_refused, bound_scope}
 use Rattle.vlt_resolve.specs.Walk.Walk.{then_do, unless_refused, late, placed_at, block_made, one, walk_simple, walk_stmts, walk_stmt, walk_block, walk_if, walk_else, walk_chained, walk_arms, walk_arm}
 use Rattle.vlt_iface.specs.Clash.{bound_names}
 use Rattle.vlt_link_laws.specs.Moves.Sees.{Sees, moved_scope, AreFree}

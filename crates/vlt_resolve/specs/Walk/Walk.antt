@@ -17,7 +17,7 @@ use Rattle.vlt_resolve_stmts.specs.Around.{Around, inside_loop, inside_focus}
 use Rattle.vlt_resolve_stmts.specs.Declarations.{Became}
 use Rattle.vlt_resolve_stmts.specs.Statements.{simple_refused, simple_became}
 use Rattle.vlt_resolve.specs.Walk.Blocks.{stmt_place, ends, closing, else_closing}
-use Rattle.vlt_resolve.specs.Switches.Switches.{arm_names, switch_refused, arm_case, arm_refused, arm_scope, arm_numbers, case_number, focus_refused, bound_scope}
+use Rattle.vlt_resolve_parts.specs.Switches.{arm_names, switch_refused, arm_case, arm_refused, arm_scope, arm_numbers, case_number, focus_refused, bound_scope}
 
 abbrev pub then_do : {A B : Type 0} → Result A Refusal → (A → Result B Refusal) → Result B Refusal
 then_do (Ok a) go = go a

@@ -1,9 +1,0 @@
-use Rattle.std.proofs.Common.{◌≡◌, ◌++◌, drop}
-use Rattle.vlt_syntax.specs.View.{arms_of}
-use Rattle.vlt_resolve.specs.Switches.Switches as s
-use Rattle.vlt_resolve.specs.Switches.Seen.{texts_seen}
-use Rattle.vlt_resolve.proofs.switches.switches.arm_names.Given as goal
-
-abbrev pub invariant-loop-arm : goal.invariant-loop-arm
-invariant-loop-arm l =
-    texts_seen l.names ++ s.arm_names (arms_of (drop l.arm-index l.arms)) ≡ s.arm_names (arms_of l.arms)

@@ -1,0 +1,7 @@
+use Rattle.std.proofs.Common.{◌≡◌, drop}
+use Rattle.vlt_resolve_parts.specs.Switches as s
+use Rattle.vlt_resolve_parts.specs.Seen.{texts_seen}
+use Rattle.vlt_resolve_parts.proofs.switches.is_among.Given as goal
+
+abbrev pub invariant-loop-other : goal.invariant-loop-other
+invariant-loop-other l = s.is_among (texts_seen l.names) l.name ≡ s.is_among (texts_seen (drop l.other-index l.names)) l.name
