@@ -8,7 +8,8 @@ ghost use Rattle.c_interp.specs.Runs.Ends.{EndsAs};
 mod end;
 mod run;
 
-use c_reader::{CError, read_c, unrefused_programs_can_run};
+use c_kinds::unrefused_programs_can_run;
+use c_reader::{CError, read_c};
 pub use end::CEnd;
 use run::run_file;
 use std::alloc::Global;

@@ -1,4 +1,2 @@
 mod Funcs
 mod Within
-pub mod OfKinds
-pub mod OfKindsLaws

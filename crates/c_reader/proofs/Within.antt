@@ -3,8 +3,8 @@ use Rattle.std.proofs.Common.{◌≡◌, ◌≤◌, ℕ, zero, suc, List, [], �
 use Rattle.std.proofs.lemmas.Option.{none-some, same_Some}
 use Rattle.c_syntax.specs.Text.{Lexeme, Piece, AreTokensOf, AreFirst, IsTokensOf, first_pieces, following, mark, cut_at, before_mark, piece}
 use Rattle.c_syntax.specs.Reading.{places_in}
-use Rattle.c_reader.specs.KindsLaws.Laws.{AreWithin}
-use Rattle.c_reader.proofs.OfKindsLaws.Places.{told_within}
+use Rattle.c_kinds.specs.Laws.{AreWithin}
+use Rattle.c_kinds.proofs.Within.{told_within}
 use Rattle.c_reader.specs.declared.error.CError.{CError}
 use Rattle.c_reader.specs.declared.error.CError.TheVariants.{Unexpected, EndOfText, Kind, Limit, Memory}
 use Rattle.c_reader.specs.Reads.{IsReadAs, IsWithin}

@@ -1,5 +1,5 @@
 //! A C text in; its program with the span of its certificate, or why it stands for none, out.
-//! Read `specs/Reads.antt` (IsReadAs) first, then `c_syntax/specs/Reading.antt`; `kinds` has the rules on names and types.
+//! Read `specs/Reads.antt` (IsReadAs) first, then `c_syntax/specs/Reading.antt`.
 //! Used by: what runs a C text, or verifies its certificate.
 #![tactic(auto)]
 
@@ -8,16 +8,12 @@ ghost use Rattle.c_syntax.specs.Reading.{cert_of};
 ghost use Rattle.c_reader.specs.Reads.{IsReadAs, RefusalsAreInTheText};
 
 mod error;
-mod kinds;
-mod kinds_laws;
 mod program;
 
-use crate::kinds::least_refusal;
+use c_kinds::least_refusal;
 use c_parser::{Written, before_mark, read_unit};
 use c_syntax::CProgram;
 pub use error::CError;
-pub use kinds::Refusal;
-pub use kinds_laws::{refusals_are_within, unrefused_programs_can_run};
 use program::program;
 use std::alloc::Global;
 use vlt_base::Span;

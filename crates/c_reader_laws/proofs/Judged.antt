@@ -9,7 +9,7 @@ use Rattle.c_syntax.specs.C.{Expr, Arg, Call, Stmt, Stmts}
 use Rattle.c_syntax.specs.Unit.{Head}
 use Rattle.c_syntax.specs.Kinds as k
 use Rattle.c_syntax.specs.Kinds.{Walk, Scope, Wanted, is_one_of, head_of}
-use Rattle.c_reader.proofs.OfKindsLaws.Declared.{quiet, kept}
+use Rattle.c_kinds.proofs.Declared.{quiet, kept}
 
 -- two scopes that declare the same
 pub record Alike (s t : Scope) : Type 0 where

@@ -9,7 +9,7 @@ use Rattle.c_syntax.specs.declared.program.CName.{CName}
 use Rattle.c_syntax.specs.Unit.{Declaration, Head, Body}
 use Rattle.c_syntax.specs.Kinds.{same_bool, same_name, same_type, same_params, same_head, has_head, has_name, head_of, heads_of}
 use Rattle.c_syntax.specs.Programs.{bodies_of}
-use Rattle.c_reader.proofs.OfKindsLaws.Main.{AreApart, bools_same, names_same, and_left, and_right, and_both, or_right, not_both}
+use Rattle.c_kinds.proofs.Main.{AreApart, bools_same, names_same, and_left, and_right, and_both, or_right, not_both}
 use Rattle.c_reader_laws.proofs.Names.{same_is, same_itself}
 
 -- ---- equal heads

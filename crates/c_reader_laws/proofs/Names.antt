@@ -11,8 +11,8 @@ use Rattle.c_syntax.specs.Unit.{Declaration}
 use Rattle.c_syntax.specs.Kinds as k
 use Rattle.c_syntax.specs.Kinds.{Walk, same_bool, same_variable, is_one_of, names_of}
 use Rattle.c_syntax.specs.Canonical.{declaration_of}
-use Rattle.c_reader.proofs.OfKindsLaws.Declared.{quiet, kept, declarations_quiet}
-use Rattle.c_reader.proofs.OfKindsLaws.Main.{bools_same}
+use Rattle.c_kinds.proofs.Declared.{quiet, kept, declarations_quiet}
+use Rattle.c_kinds.proofs.Main.{bools_same}
 use Rattle.c_reader_laws.proofs.Judged.{Calm, passes}
 
 -- each name is new after those, and has the type of its letter

@@ -11,7 +11,7 @@ use Rattle.c_syntax.specs.C.{Stmts, Func, Program}
 use Rattle.c_syntax.specs.Unit.{Head, Body, TranslationUnit}
 use Rattle.c_syntax.specs.Kinds.{unit_refusal, same_bool, same_name, has_name, is_main, has_main, heads_of, names_of}
 use Rattle.c_syntax.specs.Programs.{IsFuncOf, AreFuncsOf, bodies_of, IsProgramOf}
-use Rattle.c_reader.proofs.OfKindsLaws.Main.{AreApart, names_apart, main_there, main_name, names_same, and_left, and_right, and_both, or_right, not_both, numbers_same, bools_same}
+use Rattle.c_kinds.proofs.Main.{AreApart, names_apart, main_there, main_name, names_same, and_left, and_right, and_both, or_right, not_both, numbers_same, bools_same}
 use Rattle.c_reader_laws.proofs.Order.{in_order, order_moves, order_sorted, sorted_once}
 
 -- ---- one function

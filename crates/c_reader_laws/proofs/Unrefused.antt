@@ -12,8 +12,8 @@ use Rattle.c_syntax.specs.Kinds.{Walk, same_bool, same_head, is_one_of, has_head
 use Rattle.c_syntax.specs.Programs.{IsFuncOf, AreFuncsOf, bodies_of, IsProgramOf}
 use Rattle.c_syntax.specs.Canonical as canonical
 use Rattle.c_syntax.specs.Canonical.{declaration_of, body_of, main_number, unit_of}
-use Rattle.c_reader.proofs.OfKindsLaws.Declared.{quiet, kept, stmts_good, bodies_good, declarations_quiet, params_quiet, same_names}
-use Rattle.c_reader.proofs.OfKindsLaws.Main.{names_apart, main_there, heads_quiet, and_left, or_right}
+use Rattle.c_kinds.proofs.Declared.{quiet, kept, stmts_good, bodies_good, declarations_quiet, params_quiet, same_names}
+use Rattle.c_kinds.proofs.Main.{names_apart, main_there, heads_quiet, and_left, or_right}
 use Rattle.c_reader_laws.proofs.OfPrinterLaws.Units.{names_same}
 use Rattle.c_reader_laws.proofs.Judged.{Alike, Calm, passes, stmts_alike}
 use Rattle.c_reader_laws.proofs.Names.{AreNew, are_new, new_calm, params_new, params_calm, declared_again, new_in_order}

@@ -3,8 +3,8 @@ use Rattle.std.specs.Option.{option_map}
 use Rattle.c_syntax.specs.Reading.{places_in}
 use Rattle.c_parser.specs.View.{unit_of}
 use Rattle.c_lexer.specs.View.{lexemes_of}
-use Rattle.c_reader.specs.Kinds.View.{refusal_of}
-use Rattle.c_reader.proofs.OfKindsLaws.Main.{main_there}
+use Rattle.c_kinds.specs.View.{refusal_of}
+use Rattle.c_kinds.proofs.Main.{main_there}
 use Rattle.c_reader.proofs.read_c.Goals as goal
 
 pub program-requires : goal.program-requires

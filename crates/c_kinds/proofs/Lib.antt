@@ -1,0 +1,8 @@
+pub mod Places
+pub mod Seen
+pub mod Before
+pub mod Turns
+pub mod Declared
+pub mod Main
+pub mod Order
+pub mod Within

@@ -1,3 +1,0 @@
-pub mod Declared
-pub mod Main
-pub mod Places

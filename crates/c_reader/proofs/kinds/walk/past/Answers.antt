@@ -1,5 +1,0 @@
-use Rattle.c_reader.proofs.OfKinds.Places.{slice_places}
-use Rattle.c_reader.proofs.kinds.walk.past.Goals as goal
-
-pub returns-then-n-lexemes : goal.returns-then-n-lexemes
-returns-then-n-lexemes c = slice_places (λ l. l.at) c.args.n c.args.lexemes.now
