@@ -16,7 +16,7 @@ use crate::error::ReadError;
 use crate::text::{between_marks, is_plain};
 use cert_read_bodies::MapsNote;
 use cert_read_decls::DeclRow;
-use cert_read_rows::array;
+use cert_read_parts::array;
 use serde_json::{Category, Value};
 use std::alloc::{AllocError, Global};
 use std::str;

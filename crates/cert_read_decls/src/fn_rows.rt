@@ -9,7 +9,7 @@ ghost use Rattle.cert_read_decls.specs.Rows.{lists_of, fn_of, name_part, count_p
 use crate::lists::{clause, key_decls, var_decls};
 use crate::names::{c_name, name};
 use crate::types::result_type;
-use cert_read_rows::{id, number_u32};
+use cert_read_parts::{id, number_u32};
 use serde_json::Value;
 use std::alloc::{AllocError, Global};
 use vlt_base::Items;

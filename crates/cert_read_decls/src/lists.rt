@@ -11,7 +11,7 @@ ghost use Rattle.cert_rows.specs.Rows as rows;
 use crate::names::name;
 use crate::types::ty;
 use crate::values::{case_key, entry, field, key_decl, link, type_or_none, var_decl};
-use cert_read_rows::array;
+use cert_read_parts::array;
 use serde_json::Value;
 use std::alloc::{AllocError, Global};
 use vlt_base::{Items, StateSet, TypeId};

@@ -6,7 +6,7 @@ ghost use Rattle.std.specs.List.{list_all};
 ghost use Rattle.cert_rows.specs.Parts as parts;
 ghost use Rattle.cert_rows.specs.Rows.{is_letter, is_c_character, is_c_name, c_name};
 
-use cert_read_rows::text;
+use cert_read_parts::text;
 use serde_json::Value;
 use std::alloc::{AllocError, Global};
 use vlt_base::Items;

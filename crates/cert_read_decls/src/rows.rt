@@ -12,7 +12,7 @@ use crate::sets::set_row;
 use crate::type_rows::{
     AbstractRow, StructRow, VariantRow, abstract_row, case_row, struct_row, variant_row,
 };
-use cert_read_rows::{array, number_u32, one, text};
+use cert_read_parts::{array, number_u32, one, text};
 use serde_json::Value;
 use std::alloc::{AllocError, Global};
 use vlt_base::Boxed;

@@ -8,7 +8,7 @@ ghost use Rattle.cert_read_decls.specs.Rows.{names_of, are_own, set_parts};
 
 use crate::lists::{links, texts};
 use crate::names::name;
-use cert_read_rows::{three, two};
+use cert_read_parts::{three, two};
 use serde_json::Value;
 use std::alloc::{AllocError, Global};
 use vlt_base::Items;

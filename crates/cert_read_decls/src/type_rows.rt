@@ -9,7 +9,7 @@ ghost use Rattle.cert_read_decls.specs.Rows.{count_of_cases, struct_fields_of, v
 
 use crate::lists::{case_keys, fields, header, payload};
 use crate::names::name;
-use cert_read_rows::{id_or_none, mask, number_u32, three, two};
+use cert_read_parts::{id_or_none, mask, number_u32, three, two};
 use serde_json::Value;
 use std::alloc::{AllocError, Global};
 use vlt_base::{Items, SetId, StateSet, TypeId};

@@ -9,7 +9,7 @@ ghost use Rattle.cert_rows.specs.Rows.{result_of_tag};
 ghost use Rattle.cert_read_decls.specs.Rows.{last_ty_of_tag};
 ghost use Rattle.cert_rows.specs.Rows as rows;
 
-use cert_read_rows::{array, id, key_list, mask, text, three, two};
+use cert_read_parts::{array, id, key_list, mask, text, three, two};
 use serde_json::Value;
 use std::alloc::{AllocError, Global};
 use vlt_base::{KeyId, TypeId};

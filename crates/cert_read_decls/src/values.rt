@@ -11,7 +11,7 @@ ghost use Rattle.cert_rows.specs.Rows as rows;
 
 use crate::names::name;
 use crate::types::ty;
-use cert_read_rows::{array, four, id, id_or_none, mask, number_u8, number_u32, three, two};
+use cert_read_parts::{array, four, id, id_or_none, mask, number_u8, number_u32, three, two};
 use serde_json::Value;
 use std::alloc::{AllocError, Global};
 use vlt_base::{KeyId, StateSet, TypeId};

@@ -10,7 +10,7 @@ ghost use Rattle.cert_read_rows.specs.Statements.{block_of, block_of_tag};
 use crate::exprs::expr;
 use crate::heads::{ArmHead, Head, arm_heads, block_head};
 use crate::maps::{maps, maps_or_none};
-use crate::parts::{four, id, one, three};
+use cert_read_parts::{four, id, one, three};
 use serde_json::Value;
 use std::alloc::{AllocError, Global};
 use vlt_base::{Boxed, Items, VarId};

@@ -10,8 +10,8 @@ ghost use Rattle.cert_rows.specs.Expressions as s;
 ghost use Rattle.cert_rows.specs.Expressions.{depth, all_ops, op_at, number_fields};
 ghost use Rattle.cert_read_rows.specs.Stacks.{stack_of};
 
-use crate::parts::{array, flag, id, number, number_u8, one, text, two};
 use crate::ready::Ready;
+use cert_read_parts::{array, flag, id, number, number_u8, one, text, two};
 use serde_json::Value;
 use std::alloc::{AllocError, Global};
 use vlt_base::{Boxed, Items, VarId};

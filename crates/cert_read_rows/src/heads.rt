@@ -6,7 +6,7 @@ ghost use Rattle.cert_rows.specs.Parts.{each_in, several};
 ghost use Rattle.cert_rows.specs.Rows as s;
 ghost use Rattle.cert_read_rows.specs.Heads.{head_of, arm_of};
 
-use crate::parts::{array, four, id, number_u8, token_list, two, var_list};
+use cert_read_parts::{array, four, id, number_u8, token_list, two, var_list};
 use serde_json::Value;
 use std::alloc::{AllocError, Global};
 use vlt_base::{Items, VarId};

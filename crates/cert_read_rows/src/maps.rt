@@ -9,7 +9,7 @@ ghost use Rattle.vlt_core.specs.View.{tok_of};
 ghost use Rattle.cert_rows.specs.Values.{number_of_tok, ascends, map_part, maps_part, token_status, is_status, status_of as kind_status};
 ghost use Rattle.cert_read_rows.specs.Maps.{pair_of, pairs_of, map_of, maps_of};
 
-use crate::parts::{array, number, number_u8, number_u32, three, token};
+use cert_read_parts::{array, number, number_u8, number_u32, three, token};
 use serde_json::Value;
 use std::alloc::{AllocError, Global};
 use vlt_base::{Items, StateSet};
@@ -150,7 +150,7 @@ pub(crate) fn maps(
 }
 
 /// Maps, or 0 in their place.
-#[tactic(auto, using(crate::proofs::Signs::zero_is_read))]
+#[tactic(auto, using(cert_read_parts::proofs::Signs::zero_is_read))]
 pub(crate) fn maps_or_none(
     alloc: Global,
     instances: Option<u32>,

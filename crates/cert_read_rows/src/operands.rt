@@ -10,7 +10,7 @@ ghost use Rattle.cert_rows.specs.Expressions as s;
 ghost use Rattle.cert_rows.specs.Expressions.{operand_of_tag};
 
 use crate::exprs::expr;
-use crate::parts::{array, id, mask, number, one, text, two};
+use cert_read_parts::{array, id, mask, number, one, text, two};
 use serde_json::Value;
 use std::alloc::{AllocError, Global};
 use vlt_base::{Items, VarId};
@@ -103,7 +103,7 @@ pub(crate) fn operands(alloc: Global, v: &Value) -> Result<Option<Items<Operand>
 }
 
 /// An operand, or 0 in its place.
-#[tactic(auto, using(crate::proofs::Signs::zero_is_read))]
+#[tactic(auto, using(cert_read_parts::proofs::Signs::zero_is_read))]
 pub(crate) fn operand_or_none(
     alloc: Global,
     v: &Value,

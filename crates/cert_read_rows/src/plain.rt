@@ -8,7 +8,9 @@ ghost use Rattle.cert_read_rows.specs.Statements.{plain_of, way_of_tag, owner_of
 
 use crate::exprs::expr;
 use crate::operands::{operand, operand_or_none, operands};
-use crate::parts::{flag, four, id, key_list, number_u8, one, three, two, var_list, var_or_none};
+use cert_read_parts::{
+    flag, four, id, key_list, number_u8, one, three, two, var_list, var_or_none,
+};
 use serde_json::Value;
 use std::alloc::{AllocError, Global};
 use vlt_base::{FnId, Items, KeyId, VarId};

@@ -5,8 +5,8 @@ ghost use Rattle.serde_json.specs.View.{view};
 ghost use Rattle.cert_read_rows.specs.Statements.{stmt_of, stmt_of_tag, stmt_of_data};
 
 use crate::blocks::{BlockRow, block_row};
-use crate::parts::{array, text};
 use crate::plain::{PlainRow, plain_row};
+use cert_read_parts::{array, text};
 use serde_json::Value;
 use std::alloc::{AllocError, Global};
 use vlt_base::Boxed;

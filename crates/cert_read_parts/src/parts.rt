@@ -127,7 +127,7 @@ pub fn mask(v: &Value) -> Option<StateSet>
 }
 
 /// A key, or a variable by 256 more than its number.
-pub(crate) fn token(v: &Value) -> Option<Tok>
+pub fn token(v: &Value) -> Option<Tok>
     ensures { option_map tok_of result ≡ token.of_data (view v.now) }
 {
     let n = number(v, 4294967551)?;
@@ -150,7 +150,7 @@ pub fn four<'a>(items: &'a [Value]) -> Option<(&'a Value, &'a Value, &'a Value, 
 }
 
 /// 0 or 1.
-pub(crate) fn flag(v: &Value) -> Option<bool>
+pub fn flag(v: &Value) -> Option<bool>
     ensures { result ≡ flag.of_data (view v.now) }
 {
     let n = number_u8(v, 1)?;
@@ -172,7 +172,7 @@ pub fn id_or_none(v: &Value) -> Option<Option<u32>>
 }
 
 /// The number of a variable, or `None` for -1.
-pub(crate) fn var_or_none(v: &Value) -> Option<Option<VarId>>
+pub fn var_or_none(v: &Value) -> Option<Option<VarId>>
     ensures { option_map (option_map (λ v. v.0)) result ≡ (minus_or id).of_data (view v.now) }
 {
     match id_or_none(v)? {
@@ -195,7 +195,7 @@ fn vars(alloc: Global, items: &[Value]) -> Result<Option<Items<VarId>>, AllocErr
 }
 
 /// Variables, by their numbers.
-pub(crate) fn var_list(alloc: Global, v: &Value) -> Result<Option<Items<VarId>>, AllocError>
+pub fn var_list(alloc: Global, v: &Value) -> Result<Option<Items<VarId>>, AllocError>
     ensures { IfOk result (λ r. option_map vars_of r ≡ ids.of_data (view v.now)) }
 {
     let Some(items) = array(v) else {
@@ -219,7 +219,7 @@ fn tokens(alloc: Global, items: &[Value]) -> Result<Option<Items<Tok>>, AllocErr
 }
 
 /// The tokens that are bound in a block.
-pub(crate) fn token_list(alloc: Global, v: &Value) -> Result<Option<Items<Tok>>, AllocError>
+pub fn token_list(alloc: Global, v: &Value) -> Result<Option<Items<Tok>>, AllocError>
     ensures { IfOk result (λ r. option_map toks_of r ≡ (several token).of_data (view v.now)) }
 {
     let Some(items) = array(v) else {

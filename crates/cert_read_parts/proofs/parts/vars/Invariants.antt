@@ -3,7 +3,7 @@ use Rattle.serde_json.specs.View.{view}
 use Rattle.cert_rows.specs.Parts.{each_in}
 use Rattle.cert_rows.specs.Values.{id}
 use Rattle.vlt_core.specs.View.{vars_of}
-use Rattle.cert_read_rows.proofs.parts.vars.Given as goal
+use Rattle.cert_read_parts.proofs.parts.vars.Given as goal
 
 abbrev pub invariant-loop-v : goal.invariant-loop-v
 invariant-loop-v l = each_in id.of_data (map view l.items) ≡ option_map (λ rest. vars_of l.out ++ rest) (each_in id.of_data (map view (drop l.v-index l.items)))
