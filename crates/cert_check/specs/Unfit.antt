@@ -8,7 +8,7 @@ use Rattle.vlt_core.specs.Least.{first_number}
 use Rattle.vlt_core.specs.Instances.{instance, origins}
 use Rattle.vlt_keyset.specs.Pairs.{IsBefore}
 use Rattle.vlt_rows.specs.Unfit.{HasNoFlow}
-use Rattle.vlt_flow.specs.Unfit.{HasNoStart}
+use Rattle.vlt_flow_maps.specs.Unfit.{HasNoStart}
 use Rattle.cert_rows.specs.Values.{TokenStatus, ListedMap}
 use Rattle.cert_rows.specs.Rows.{Maps}
 use Rattle.cert_format.specs.Notes.{Note, at_loop, at_join}

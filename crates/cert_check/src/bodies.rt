@@ -8,7 +8,7 @@ ghost use Rattle.vlt_core.specs.Derives.{start_map};
 ghost use Rattle.vlt_core.specs.Flow.{size_block};
 ghost use Rattle.vlt_rows.specs.FlowView.{block_view};
 ghost use Rattle.vlt_rows.specs.Unfit.{HasNoFlow};
-ghost use Rattle.vlt_flow.specs.Unfit.{HasNoStart};
+ghost use Rattle.vlt_flow_maps.specs.Unfit.{HasNoStart};
 ghost use Rattle.vlt_keyset.specs.Held.{map_of};
 ghost use Rattle.cert_check.specs.Tests.{block_tests, body_tests};
 ghost use Rattle.cert_check.specs.Notes.{plain_notes, given_by, annotation_of};
@@ -23,7 +23,8 @@ use crate::walking::test_block;
 use cert_read_bodies::MapsNote;
 use std::alloc::Global;
 use vlt_core::{Func, Program};
-use vlt_flow::{count_block, start_map_of};
+use vlt_flow::count_block;
+use vlt_flow_maps::start_map_of;
 use vlt_keyset::Held;
 use vlt_rows::{FlowBlock, RowError, body_flow};
 

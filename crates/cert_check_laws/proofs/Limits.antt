@@ -11,7 +11,7 @@ use Rattle.vlt_core.specs.KindedBodies.{first_ids, stmts_rows}
 use Rattle.vlt_core_laws.proofs.Unbroken.{EachEmpty}
 use Rattle.vlt_core_laws.proofs.Headed.{function_empty, head_empty, each_at}
 use Rattle.vlt_rows.specs.Unfit.{HasNoFlow}
-use Rattle.vlt_flow.specs.Unfit.{IsUnfitEntry, wide_entry, stray_entry, HasNoStart, many_keys, many_vars, unfit_entry}
+use Rattle.vlt_flow_maps.specs.Unfit.{IsUnfitEntry, wide_entry, stray_entry, HasNoStart, many_keys, many_vars, unfit_entry}
 use Rattle.cert_fit_laws.specs.Formed.{IsFormed}
 use Rattle.cert_fit_laws.proofs.Masked.{AreMasked}
 use Rattle.cert_fit_laws.proofs.NarrowNumbers.{Bounds}

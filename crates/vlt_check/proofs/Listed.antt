@@ -8,7 +8,8 @@ use Rattle.vlt_core.specs.Instances.{instance, IsOrigin, origins}
 use Rattle.vlt_core.specs.Local.{Notes, IsLocalIn}
 use Rattle.vlt_core.specs.Derives.{IsAccepted, start_map}
 use Rattle.vlt_core.specs.Bodies.{body_flow}
-use Rattle.vlt_flow.specs.Walks.{Marks, notes_of, IsLeastIn}
+use Rattle.vlt_flow.specs.Walks.{notes_of, IsLeastIn}
+use Rattle.vlt_flow_maps.specs.Kept.{Marks}
 use Rattle.vlt_core_laws.proofs.Formed.{formed_bodies}
 use Rattle.vlt_core_laws.proofs.Origins.{origin_at}
 use Rattle.vlt_faults.specs.Judge.Faulty.{AreFitIn}

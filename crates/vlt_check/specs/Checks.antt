@@ -4,7 +4,8 @@ use Rattle.vlt_base.specs.Refusals as refusals
 use Rattle.vlt_core.specs.Core.{Func, Program}
 use Rattle.vlt_core.specs.Instances.{instance, IsOrigin, origins}
 use Rattle.vlt_core.specs.Local.{Notes, IsLocalIn}
-use Rattle.vlt_flow.specs.Walks.{Marks, IsLeastIn}
+use Rattle.vlt_flow.specs.Walks.{IsLeastIn}
+use Rattle.vlt_flow_maps.specs.Kept.{Marks}
 use Rattle.vlt_core.specs.Faults as faults
 use Rattle.vlt_core.specs.View.{tok_of}
 use Rattle.vlt_core.specs.declared.held.FlowFault.{FlowFault}

@@ -20,7 +20,7 @@ use program::check_funcs;
 use std::alloc::Global;
 use vlt_base::Items;
 use vlt_core::Program;
-use vlt_flow::Kept;
+use vlt_flow_maps::Kept;
 
 /// The least maps of each function with a body in each of its instances, in the order of the text and by ascending origin;
 /// `Refused` where the rules on keys are broken, with the first fault; `Unfit` where the program is (`IsUnfit`).

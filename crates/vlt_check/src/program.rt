@@ -17,7 +17,8 @@ use thiserror::Error;
 use vlt_base::{FnId, Items};
 use vlt_core::{FlowFault, Func, Program};
 use vlt_faults::fault_in;
-use vlt_flow::{Kept, Stop, walk};
+use vlt_flow::{Stop, walk};
+use vlt_flow_maps::Kept;
 use vlt_rows::{RowError, origins};
 
 /// Why a program isn't accepted.

@@ -27,7 +27,7 @@ use crate::judge::tokens::judge;
 use std::alloc::Global;
 use vlt_base::FnId;
 use vlt_core::{FlowFault, Func, Program};
-use vlt_flow::start_map_of;
+use vlt_flow_maps::start_map_of;
 use vlt_rows::{RowError, body_flow, origins};
 
 /// A blame in the instance of this origin.

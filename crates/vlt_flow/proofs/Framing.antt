@@ -7,7 +7,8 @@ use Rattle.vlt_core.specs.Local.{Meets}
 use Rattle.vlt_core.proofs.Maps.{map_refl, map_trans}
 use Rattle.vlt_core_laws.proofs.Changes.{IsSameOn, IsGrownAt}
 use Rattle.vlt_keyset.specs.Held.{Statuses, map_of, gap}
-use Rattle.vlt_flow.specs.Walks.{Marks, slot, map_in, notes_of, Grown, IsSameAt, IsGrownSlot, ForLoop, IsOther, IsFrame, IsLoop, HasRoom, IsInto}
+use Rattle.vlt_flow.specs.Walks.{map_in, notes_of, IsSameAt, IsGrownSlot, ForLoop, IsOther, IsFrame, IsLoop, HasRoom}
+use Rattle.vlt_flow_maps.specs.Kept.{Marks, slot, Grown, IsInto}
 
 nearer : (h k m : Statuses) → (k ≡ h) ⊎ (gap k < gap h) → (m ≡ k) ⊎ (gap m < gap k) → (m ≡ h) ⊎ (gap m < gap h)
 nearer h k m (inl e) (inl f) = inl (f ∙ e)

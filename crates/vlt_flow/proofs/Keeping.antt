@@ -4,7 +4,8 @@ use Rattle.std.specs.Prelude.{IsSome}
 use Rattle.vlt_core.specs.Maps.{HeldMap}
 use Rattle.vlt_core.specs.Flow.{Flow, step, choose, loop, switch, scope, focus, return, jump, Block, block, Stmts, done, next, Arms, no_arms, arm, size, size_block, size_stmts, size_arms}
 use Rattle.vlt_core.specs.Local.{When}
-use Rattle.vlt_flow.specs.Walks.{Marks, slot, Keeps, KeepsBlock, KeepsStmts, KeepsArms, IsOther, IsFrame}
+use Rattle.vlt_flow.specs.Walks.{Keeps, KeepsBlock, KeepsStmts, KeepsArms, IsOther, IsFrame}
+use Rattle.vlt_flow_maps.specs.Kept.{Marks, slot}
 
 -- the maps kept of the statements from n up to m are still kept
 pub record StayIn (x y : Marks) (n m : ℕ) : Type 0 where

@@ -1,9 +1,8 @@
-pub mod Passing
-pub mod Joining
 pub mod Framing
 pub mod Keeping
 pub mod Parts
 pub mod Turning
-pub mod Starting
 pub mod Unfitting
 pub mod OfNotes
+pub mod Stopping
+pub mod FromStart

@@ -9,7 +9,9 @@ use Rattle.vlt_core.specs.Local.{Notes, When, only_if, rows_passed, leads_block,
 use Rattle.vlt_core.proofs.Maps.{map_refl, map_trans, can_below, passed_below}
 use Rattle.vlt_core_laws.proofs.Changes.{IsSameOn, IsGrownAt, when_same, meets_below, leads_block_same, local_block_grown, leads_block_some}
 use Rattle.vlt_keyset.specs.Held.{Statuses, map_of}
-use Rattle.vlt_flow.specs.Walks.{Marks, slot, map_in, maybe_map, notes_of, Above, IsUnder, Grown, IsInto, KeepsBlock, HasRoom, HasRoomFor, Passes, IsWalked, HasNone, Lies, form_part, block_part, stmts_part, IsWay, IsJoinedWay, HasNoWay, IsPlace, IsLeft, NoLeft, IsJump, HasNoJump, IsJoinedArms, HasNoArms, IsLeastLocal}
+use Rattle.vlt_flow.specs.Walks.{map_in, maybe_map, notes_of, IsUnder, KeepsBlock, HasRoom, HasRoomFor, IsWalked, HasNone, Lies, form_part, block_part, stmts_part, IsWay, IsJoinedWay, HasNoWay, IsPlace, IsJump, HasNoJump, IsJoinedArms, HasNoArms, IsLeastLocal}
+use Rattle.vlt_flow_maps.specs.Kept.{Marks, slot, Above, Grown, IsInto}
+use Rattle.vlt_flow_maps.specs.Passed.{Passes, IsLeft, NoLeft}
 use Rattle.vlt_flow.proofs.Keeping.{StayIn, keeps_block_on, frame_stays}
 use Rattle.vlt_flow.proofs.Framing.{no_some, grown_below, grown_some, frame_refl, frame_trans, frame_wider, frame_choice, frame_before, frame_meets, loop_frame, IsPutAround, IsPutAfter, put_around_frame, put_after_frame, put_choice_frame, frame_also}
 

@@ -12,7 +12,9 @@ use Rattle.vlt_core.proofs.Maps.{map_refl, map_trans, can_below}
 use Rattle.vlt_rows.proofs.Views.{arm_parts, stmt_parts}
 use Rattle.vlt_core_laws.proofs.Changes.{IsSameOn, IsGrownAt, same_part, when_same, leads_block_same, leads_same, local_grown, local_block_grown, leads_some}
 use Rattle.vlt_keyset.specs.Held.{Statuses, map_of, gap}
-use Rattle.vlt_flow.specs.Walks.{Marks, slot, map_in, maybe_map, notes_of, Above, IsUnder, Grown, KeepsStmts, KeepsArms, IsFrame, IsLoop, HasRoom, HasRoomFor, Passes, IsWalked, HasNone, Lies, form_part, block_part, stmts_part, IsJoinedWay, HasNoWay, IsTurn, HasNoTurn, IsTurned, IsJoinedArms, HasNoArms, IsWalkedOn, HasNoneOn}
+use Rattle.vlt_flow.specs.Walks.{map_in, maybe_map, notes_of, IsUnder, KeepsStmts, KeepsArms, IsFrame, IsLoop, HasRoom, HasRoomFor, IsWalked, HasNone, Lies, form_part, block_part, stmts_part, IsJoinedWay, HasNoWay, IsTurn, HasNoTurn, IsTurned, IsJoinedArms, HasNoArms, IsWalkedOn, HasNoneOn}
+use Rattle.vlt_flow_maps.specs.Kept.{Marks, slot, Above, Grown}
+use Rattle.vlt_flow_maps.specs.Passed.{Passes}
 use Rattle.vlt_flow.proofs.Framing.{grown_below, grown_some, frame_refl, frame_trans, frame_wider, frame_loop, frame_before, frame_meets, loop_frame, room_frame, IsPutAround, IsPutAfter, put_around_frame, put_after_frame}
 use Rattle.vlt_flow.proofs.Keeping.{StayIn, keeps_on, keeps_block_on, come_to, stay_part, stay_chain, stay_self, frame_stays}
 use Rattle.vlt_flow.proofs.Parts.{or_true, way_there, inside_below, lies_when, under_around, under_after, into_in}

@@ -1,4 +1,3 @@
 pub mod Walks
 pub mod Unfit
-pub mod Starts
 pub mod Notes

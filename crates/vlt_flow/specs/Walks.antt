@@ -1,5 +1,5 @@
 -- What a walk keeps, and what it gives.
-use Rattle.std.specs.Prelude.{◌≡◌, ◌≢◌, ◌<◌, ◌≤◌, ◌+◌, ◌^◌, ℕ, Bool, true, false, ◌||◌, List, Option, Some, None, IsSome, ◌⊎◌, length, map, slice_index_or, Result, Err}
+use Rattle.std.specs.Prelude.{◌≡◌, ◌≢◌, ◌<◌, ◌≤◌, ◌+◌, ◌^◌, ℕ, Bool, true, false, ◌||◌, List, Option, Some, None, IsSome, length, map, Result, Err}
 use Rattle.vlt_core.specs.Core.{Tok, Func, Program}
 use Rattle.vlt_core.specs.Maps.{Row, HeldMap, IsBelow, CanPass, map_after, away_row}
 use Rattle.vlt_core.specs.Flow.{Flow, choose, loop as while_form, switch, scope, focus, Block, block, Stmts, done, next, Arms, no_arms, arm, size, size_block, size_arms, passes, passes_block, passes_arms}
@@ -10,22 +10,17 @@ use Rattle.vlt_rows.specs.declared.tree.FlowBlock.{FlowBlock}
 use Rattle.vlt_rows.specs.FlowView.{rows_view, block_view}
 use Rattle.vlt_flow.specs.declared.errors.Stop.{Stop}
 use Rattle.vlt_flow.specs.declared.errors.Stop.TheVariants as stop
-use Rattle.vlt_flow.specs.declared.errors.Halt.{Halt}
 use Rattle.vlt_flow.specs.declared.errors.NoteError.{NoteError}
 use Rattle.vlt_flow.specs.declared.errors.NoteError.TheVariants as note
-use Rattle.vlt_flow.specs.declared.errors.Halt.TheVariants as halt
 use Rattle.vlt_flow.specs.declared.errors.Stop.TheVariants.{Refused}
 use Rattle.vlt_rows.specs.declared.sink.RowError.{RowError}
 use Rattle.vlt_rows.specs.declared.sink.RowError.TheVariants as row
-use Rattle.vlt_keyset.specs.Held.{Statuses, map_of, gap}
+use Rattle.vlt_keyset.specs.Held.{Statuses, map_of}
+use Rattle.vlt_flow_maps.specs.Kept.{Marks, slot, Above, Grown}
 
 -- a fact for the one error that refuses
 pub record IfRefused {A : Type 0} (r : Result A Stop) (p : Type 0) : Type 0 where
   pub holds : r ≡ Err Refused → p
-
--- a fact for the halt that refuses
-pub record IfHalted {A : Type 0} (r : Result A Halt) (p : Type 0) : Type 0 where
-  pub holds : r ≡ Err halt.Refused → p
 
 -- what rows that aren't listed say of a walk
 abbrev pub stop_of : RowError → Stop
@@ -37,19 +32,6 @@ stop_of row.Memory = stop.Memory
 abbrev pub stop_of_notes : NoteError → Stop
 stop_of_notes note.Unfit = stop.Unfit
 stop_of_notes note.Memory = stop.Memory
-
--- the rows were passed
-pub record Passes (rs : List Row) (old new : HeldMap) : Type 0 where
-  pub can : CanPass rs old
-  pub after : new ≡ map_after rs old
-
--- the maps kept so far, by statement: at the heads of loops, and after loops and choices
-pub record Marks : Type 0 where
-  pub around : List (Option Statuses)
-  pub following : List (Option Statuses)
-
-abbrev pub slot : List (Option Statuses) → ℕ → Option Statuses
-slot xs i = slice_index_or xs i None
 
 abbrev pub map_in : Option Statuses → HeldMap
 map_in None = λ t. maps.absent
@@ -91,28 +73,10 @@ abbrev mutual
   KeepsArms k n no_arms = Unit {0}
   KeepsArms k n (arm rs s rest) = KeepsBlock k n s × KeepsArms k (n + size_block s) rest
 
--- a map lies above what came to a point, if anything came
-abbrev pub Above : Option Statuses → HeldMap → Type 0
-Above None m = Unit {0}
-Above (Some h) m = IsBelow (map_of h) m
-
 -- each map kept lies below that of the annotation
 pub record IsUnder (k : Marks) (a : Notes) : Type 0 where
   pub around : (i : ℕ) → Above (slot k.around i) (a.around i)
   pub following : (i : ℕ) → Above (slot k.following i) (a.following i)
-
--- nothing came before; or the map is the same, or above and nearer to the largest
-abbrev pub Grown : Option Statuses → Option Statuses → Type 0
-Grown None o = Unit {0}
-Grown (Some h) None = ⊥
-Grown (Some h) (Some k) = IsBelow (map_of h) (map_of k) × ((k ≡ h) ⊎ (gap k < gap h))
-
--- what came is united with what was there
-pub record IsInto (o : Option Statuses) (h : Statuses) (new : Option Statuses) : Type 0 where
-  pub some : IsSome new
-  pub both : (m : HeldMap) → Above new m → Above o m × IsBelow (map_of h) m
-  pub least : (m : HeldMap) → Above o m → IsBelow (map_of h) m → Above new m
-  pub grown : Grown o new
 
 pub record IsSameAt (i : ℕ) (old new : Marks) : Type 0 where
   pub around : slot new.around i ≡ slot old.around i
@@ -216,16 +180,6 @@ HasNoWay l k n s h old = (a : Notes) (j : HeldMap) → IsBelow h j → IsLocalBl
 abbrev pub IsPlace : Marks → ℕ → Bool → Option Statuses → Type 0
 IsPlace k n true o = IsSome o × (slot k.following n ≡ o)
 IsPlace k n false o = o ≡ None
-
--- the rows at the end of a part, if it can be passed
-abbrev pub IsLeft : List Row → Option Statuses → Option Statuses → Type 0
-IsLeft rs None r = r ≡ None
-IsLeft rs (Some h) None = ⊥
-IsLeft rs (Some h) (Some k) = Passes rs (map_of h) (map_of k)
-
-abbrev pub NoLeft : List Row → Option Statuses → Type 0
-NoLeft rs None = ⊥
-NoLeft rs (Some h) = CanPass rs (map_of h) → ⊥
 
 -- a jump to the loop l
 pub record IsJump (l : Option ℕ) (continues : Bool) (left : List Tok) (h : HeldMap) (old new : Marks) : Type 0 where

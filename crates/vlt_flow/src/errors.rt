@@ -2,12 +2,10 @@
 
 ghost use Rattle.std.specs.Prelude.{◌≡◌};
 ghost use Rattle.vlt_flow.specs.declared.errors.Stop.TheVariants.{Memory};
-ghost use Rattle.vlt_flow.specs.declared.errors.Halt.TheVariants as halt;
 ghost use Rattle.vlt_flow.specs.declared.errors.NoteError.TheVariants as note;
 
 use std::alloc::{AllocError, AllocFailed};
 use thiserror::Error;
-use vlt_keyset::{JoinFault, TokenFault};
 use vlt_rows::RowError;
 
 /// Why a walk gives no maps.
@@ -20,16 +18,6 @@ pub enum Stop {
     #[error("the body is unfit for a walk")]
     Unfit,
     #[error("there was no memory for the maps")]
-    Memory,
-}
-
-/// Why a walk halts on its way through a body.
-#[derive(Clone, Copy, Debug, PartialEq, Eq, Error)]
-pub enum Halt {
-    /// A row or a join is refused.
-    #[error("a row or a join is refused")]
-    Refused,
-    #[error("there was no memory for a map")]
     Memory,
 }
 
@@ -69,30 +57,6 @@ impl From<NoteError> for Stop {
             NoteError::Unfit => Stop::Unfit,
             NoteError::Memory => Stop::Memory,
         }
-    }
-}
-
-impl From<vlt_base::Memory> for Halt {
-    ghost from_gives = { λ _ e. e ≡ halt.Memory };
-
-    fn from(_: vlt_base::Memory) -> Halt {
-        Halt::Memory
-    }
-}
-
-impl From<TokenFault> for Halt {
-    ghost from_gives = { λ _ e. e ≡ halt.Refused };
-
-    fn from(_: TokenFault) -> Halt {
-        Halt::Refused
-    }
-}
-
-impl From<JoinFault> for Halt {
-    ghost from_gives = { λ _ e. e ≡ halt.Refused };
-
-    fn from(_: JoinFault) -> Halt {
-        Halt::Refused
     }
 }
 

@@ -9,10 +9,10 @@ ghost use Rattle.vlt_flow.specs.Walks.{IfRefused, IsLeastLocal, KeepsBlock};
 ghost use Rattle.vlt_flow.specs.Unfit.{IfUnfit};
 
 use crate::count::count_block;
-use crate::errors::{Halt, Stop};
-use crate::kept::Kept;
+use crate::errors::Stop;
 use crate::walking::walk_block;
 use std::alloc::Global;
+use vlt_flow_maps::{Halt, Kept};
 use vlt_keyset::Held;
 use vlt_rows::FlowBlock;
 

@@ -12,21 +12,17 @@ ghost use Rattle.vlt_flow.specs.Unfit.{IfUnfit, IsUnfit};
 
 mod count;
 mod errors;
-mod kept;
 mod least;
 mod notes;
-mod pass;
-mod start;
 mod walking;
 
 pub use count::{count_block, count_form};
 pub use errors::Stop;
-pub use kept::Kept;
 pub use least::least_maps;
 pub use notes::{annotate, annotate_block};
-pub use start::start_map_of;
 use std::alloc::Global;
 use vlt_core::{Func, Program};
+use vlt_flow_maps::{Kept, start_map_of};
 use vlt_rows::body_flow;
 
 /// The least maps of a function's body in the instance of this origin, by statement; `Refused` where no annotation holds in

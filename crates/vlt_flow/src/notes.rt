@@ -21,10 +21,11 @@ mod passing;
 mod statuses;
 
 use crate::notes::listing::note_block;
-use crate::{Stop, least_maps, start_map_of};
+use crate::{Stop, least_maps};
 use std::alloc::Global;
 use vlt_base::Items;
 use vlt_core::{Annotation, Func, Program};
+use vlt_flow_maps::start_map_of;
 use vlt_keyset::{Held, TokenCounts};
 use vlt_rows::{FlowBlock, body_flow};
 

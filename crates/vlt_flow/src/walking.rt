@@ -1,55 +1,32 @@
 //! The walk over a body.
 
-ghost use Rattle.std.specs.Prelude.{◌≡◌, true, ◌||◌, ◌+◌, ◌<◌, Some, None, IsSome, IfOk, OnOk, length, map};
+ghost use Rattle.std.specs.Prelude.{◌≡◌, true, ◌||◌, ◌+◌, ◌<◌, Some, None, IsSome, IfOk, OnOk, length};
 ghost use Rattle.vlt_core.specs.Flow.{size, size_block, size_stmts, size_arms};
-ghost use Rattle.vlt_core.specs.Maps.{CanPass, away_row};
+ghost use Rattle.vlt_core.specs.Maps.{CanPass};
 ghost use Rattle.vlt_core.specs.Flow.{passes_block, passes_arms};
 ghost use Rattle.vlt_core.specs.HeldView.{toks_of};
 ghost use Rattle.vlt_rows.specs.FlowView.{flow_view, block_view, stmts_view, arms_view, rows_view};
 ghost use Rattle.vlt_keyset.specs.Held.{map_of};
-ghost use Rattle.vlt_flow.specs.Walks.{IfHalted, Passes, slot, HasRoom, IsWalked, HasNone, form_part, block_part, stmts_part, IsJoinedWay, HasNoWay, IsTurn, HasNoTurn, IsJump, HasNoJump, IsLeft, NoLeft, IsPlace, IsWalkedOn, HasNoneOn, IsTurned, IsJoinedArms, HasNoArms, HasRoomFor, ForLoop, IsLoop, choice_of};
+ghost use Rattle.vlt_flow.specs.Walks.{HasRoom, IsWalked, HasNone, form_part, block_part, stmts_part, IsJoinedWay, HasNoWay, IsTurn, HasNoTurn, IsJump, HasNoJump, IsPlace, IsWalkedOn, HasNoneOn, IsTurned, IsJoinedArms, HasNoArms, HasRoomFor, ForLoop, IsLoop, choice_of};
+ghost use Rattle.vlt_flow_maps.specs.Kept.{slot};
+ghost use Rattle.vlt_flow_maps.specs.Passed.{IfHalted, Passes};
 
 use crate::count::count_form;
-use crate::errors::Halt;
-use crate::kept::{Kept, copy_after, copy_around, join_copy_after};
-use crate::pass::{pass_gone, pass_rows};
 use std::alloc::Global;
 use vlt_base::either;
 use vlt_core::{Row, Tok};
+use vlt_flow_maps::{
+    Halt, Kept, Walked, comes, copy_after, copy_around, join_copy_after, leave_gone, leave_rows,
+    pass_gone, pass_rows, stops,
+};
 use vlt_keyset::Held;
 use vlt_rows::{Flow, FlowArm, FlowBlock, FlowStmt};
-
-/// The map after a part, if it can be passed, and the number of the statement after it.
-#[derive(Drop)]
-pub struct Walked {
-    pub held: Option<Held>,
-    pub at: usize,
-}
 
 /// Whether a way can be passed, and the number of the statement after it.
 #[derive(Clone, Copy)]
 struct Way {
     passes: bool,
     at: usize,
-}
-
-/// What comes to the statement `at` is this map.
-fn comes(held: Held, at: usize) -> Walked
-    ensures held { result.held ≡ Some held }
-    ensures at { result.at ≡ at }
-{
-    Walked {
-        held: Some(held),
-        at,
-    }
-}
-
-/// Nothing comes to the statement `at`.
-fn stops(at: usize) -> Walked
-    ensures held { result.held ≡ None }
-    ensures at { result.at ≡ at }
-{
-    Walked { held: None, at }
 }
 
 fn pass(held: Held, rows: &[Row]) -> Result<Held, Halt>
@@ -75,43 +52,6 @@ fn following(alloc: Global, kept: &Kept, n: usize, way: Way) -> Result<Walked, H
         None
     };
     Ok(Walked { held, at: way.at })
-}
-
-/// The rows at the end of a part, if it can be passed.
-fn leave_rows(walked: Walked, rows: &[Row]) -> Result<Walked, Halt>
-    ensures ok { IfOk result (λ w. IsLeft (rows_view rows.now) walked.held w.held) }
-    ensures at { IfOk result (λ w. w.at ≡ walked.at) }
-    ensures refused { IfHalted result (NoLeft (rows_view rows.now) walked.held) }
-{
-    let Walked { held, at } = walked;
-    match held {
-        None => Ok(Walked { held: None, at }),
-        Some(mut end) => {
-            pass_rows(&mut end, rows)?;
-            Ok(Walked {
-                held: Some(end),
-                at,
-            })
-        }
-    }
-}
-
-fn leave_gone(walked: Walked, toks: &[Tok]) -> Result<Walked, Halt>
-    ensures ok { IfOk result (λ w. IsLeft (map away_row (toks_of toks.now)) walked.held w.held) }
-    ensures at { IfOk result (λ w. w.at ≡ walked.at) }
-    ensures refused { IfHalted result (NoLeft (map away_row (toks_of toks.now)) walked.held) }
-{
-    let Walked { held, at } = walked;
-    match held {
-        None => Ok(Walked { held: None, at }),
-        Some(mut end) => {
-            pass_gone(&mut end, toks)?;
-            Ok(Walked {
-                held: Some(end),
-                at,
-            })
-        }
-    }
 }
 
 /// A jump joins into a map of the loop round it.

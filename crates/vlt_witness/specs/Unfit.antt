@@ -7,7 +7,7 @@ use Rattle.vlt_core.specs.Flow.{Block, Arms, no_arms, arm}
 use Rattle.vlt_core.specs.Bodies.{body_flow}
 use Rattle.vlt_core.specs.Faults.{FlowFault, spots_block}
 use Rattle.vlt_rows.specs.Unfit.{HasPartBlock, HasWideRow}
-use Rattle.vlt_flow.specs.Unfit.{HasNoStart}
+use Rattle.vlt_flow_maps.specs.Unfit.{HasNoStart}
 
 abbrev pub arm_count : Arms → ℕ
 arm_count no_arms = 0

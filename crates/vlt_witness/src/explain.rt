@@ -31,7 +31,7 @@ use std::alloc::{AllocError, Global};
 use vlt_base::{FnId, Items};
 use vlt_core::{Choice, FaultKind, FlowFault, Func, Program, Status, Tok, Wanted};
 use vlt_faults::{Ones, made};
-use vlt_flow::start_map_of;
+use vlt_flow_maps::start_map_of;
 use vlt_keyset::Held;
 use vlt_rows::{FlowBlock, RowError, body_flow, has_instance};
 

@@ -14,7 +14,8 @@ use Rattle.vlt_core_laws.specs.Fit.{IsFitBody}
 use Rattle.vlt_core_laws.proofs.Formed.{formed_bodies}
 use Rattle.vlt_keyset.specs.Held.{Statuses, map_of}
 use Rattle.vlt_keyset.specs.Pairs.{IsAmong, HasOnly}
-use Rattle.vlt_flow.specs.Walks.{Marks, slot, KeepsBlock, Above, IsUnder, IsLeastLocal}
+use Rattle.vlt_flow.specs.Walks.{KeepsBlock, IsUnder, IsLeastLocal}
+use Rattle.vlt_flow_maps.specs.Kept.{Marks, slot, Above}
 use Rattle.vlt_flow.specs.Notes.Noted.{HasNoList, LacksNote, IsUnnoted, many_statements, no_note}
 use Rattle.cert_fit_laws.specs.Limits.{IsLimitedFunc}
 use Rattle.cert_fit_laws.proofs.Listed.{all_at}

@@ -5,7 +5,8 @@ use Rattle.vlt_core.specs.Core.{Tok}
 use Rattle.vlt_core.specs.Flow.{Flow, step, choose, loop, switch, scope, focus, return, jump, Block, block, Stmts, done, next, Arms, no_arms, arm, size, size_block, passes, passes_block, passes_arms}
 use Rattle.vlt_core.specs.Least.{Noted, a_loop, a_join, noted, noted_block, noted_stmts, noted_arms}
 use Rattle.vlt_core_laws.specs.Scoped.{IsScoped, IsScopedBlock, IsScopedStmts, IsScopedArms}
-use Rattle.vlt_flow.specs.Walks.{Marks, slot, Keeps, KeepsBlock, KeepsStmts, KeepsArms}
+use Rattle.vlt_flow.specs.Walks.{Keeps, KeepsBlock, KeepsStmts, KeepsArms}
+use Rattle.vlt_flow_maps.specs.Kept.{Marks, slot}
 
 module _ (k : Marks) where
   -- the maps of these statements are kept

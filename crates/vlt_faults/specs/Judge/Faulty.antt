@@ -8,7 +8,7 @@ use Rattle.vlt_core.specs.Flow.{Block, size_block}
 use Rattle.vlt_core.specs.Faults.{spots_block}
 use Rattle.vlt_core_laws.specs.Shown.{IsFit, IsStart}
 use Rattle.vlt_rows.specs.Unfit.{HasNoFlow}
-use Rattle.vlt_flow.specs.Unfit.{HasNoStart}
+use Rattle.vlt_flow_maps.specs.Unfit.{HasNoStart}
 use Rattle.vlt_faults.specs.Judge.Extents.{AvoidsBlock, last_key, last_var}
 
 -- a token is lent in a focus alone, and sets have states

@@ -11,7 +11,7 @@ use Rattle.vlt_rows.specs.declared.tree.FlowStmt.{FlowStmt}
 use Rattle.vlt_rows.specs.declared.tree.FlowArm.{FlowArm, out-FlowArm}
 use Rattle.vlt_rows.specs.FlowView.{flow_view, block_view, arms_view, stmts_view, rows_view}
 use Rattle.vlt_rows.proofs.Views.{stmt_parts, arm_parts}
-use Rattle.vlt_flow.specs.Walks.{Marks, slot}
+use Rattle.vlt_flow_maps.specs.Kept.{Marks, slot}
 use Rattle.vlt_flow.specs.Notes.Listed.{map_in, note_of}
 use Rattle.vlt_flow.specs.Notes.Noted.{IsHeld, IsRead, AreRead, IsNoted, IsLong, HasNoNote, LacksNote}
 

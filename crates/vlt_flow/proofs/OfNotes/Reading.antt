@@ -11,7 +11,8 @@ use Rattle.vlt_core.specs.Least.{Note, at_loop, at_join, Noted, a_loop, a_join, 
 use Rattle.vlt_keyset.specs.Held.{Statuses}
 use Rattle.vlt_flow.specs.declared.errors.Stop.{Stop}
 use Rattle.vlt_flow.specs.declared.errors.Stop.TheVariants.{Refused}
-use Rattle.vlt_flow.specs.Walks.{IfRefused, Marks, slot, map_in, notes_of, Above, IsUnder, IsLeastLocal}
+use Rattle.vlt_flow.specs.Walks.{IfRefused, map_in, notes_of, IsUnder, IsLeastLocal}
+use Rattle.vlt_flow_maps.specs.Kept.{Marks, slot, Above}
 use Rattle.vlt_flow.specs.Notes.Noted.{IsHeld, AreRead}
 use Rattle.vlt_flow.proofs.OfNotes.Alike.{Same, SameBlock, SameStmts, SameArms, local_block_alike}
 

@@ -2,8 +2,8 @@ use Rattle.std.proofs.lemmas.Result.{IfOk-weaker}
 use Rattle.vlt_core.specs.Instances.{instance}
 use Rattle.vlt_core.specs.View.{program_of, func_of}
 use Rattle.vlt_flow.specs.declared.errors.Stop.{Stop}
-use Rattle.vlt_flow.proofs.Passing.{stop_through}
-use Rattle.vlt_flow.proofs.Starting.{least_in, none_in}
+use Rattle.vlt_flow.proofs.Stopping.{stop_through}
+use Rattle.vlt_flow.proofs.FromStart.{least_in, none_in}
 use Rattle.vlt_flow.specs.Unfit.{no_start}
 use Rattle.vlt_flow.proofs.Unfitting.{unfit_stop}
 use Rattle.vlt_flow.proofs.walk.Goals as goal

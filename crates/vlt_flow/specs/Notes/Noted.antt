@@ -6,7 +6,8 @@ use Rattle.vlt_core.specs.Flow.{Block, size_block}
 use Rattle.vlt_core.specs.declared.notes.Note as DN
 use Rattle.vlt_keyset.specs.Held.{Statuses, map_of}
 use Rattle.vlt_keyset.specs.Pairs.{HasOnly}
-use Rattle.vlt_flow.specs.Walks.{Marks, slot, KeepsBlock, IsLeastLocal}
+use Rattle.vlt_flow.specs.Walks.{KeepsBlock, IsLeastLocal}
+use Rattle.vlt_flow_maps.specs.Kept.{Marks, slot}
 use Rattle.vlt_flow.specs.Notes.Listed.{note_of}
 use Rattle.vlt_flow.specs.declared.errors.NoteError.{NoteError}
 use Rattle.vlt_flow.specs.declared.errors.NoteError.TheVariants.{Unfit}

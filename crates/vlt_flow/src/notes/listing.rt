@@ -4,17 +4,17 @@ ghost use Rattle.std.specs.Prelude.{◌≡◌, ◌≤◌, ◌^◌, ◌+◌, ◌|
 ghost use Rattle.vlt_core.specs.Flow.{size, size_block, size_stmts, size_arms};
 ghost use Rattle.vlt_core.specs.Least.{a_loop, a_join, noted, noted_block, noted_stmts, noted_arms};
 ghost use Rattle.vlt_rows.specs.FlowView.{flow_view, block_view, stmts_view, arms_view};
-ghost use Rattle.vlt_flow.specs.Walks.{slot};
+ghost use Rattle.vlt_flow_maps.specs.Kept.{slot};
 ghost use Rattle.vlt_flow.specs.Notes.Listed.{map_in, IsListed, AreListed};
 ghost use Rattle.vlt_flow.specs.Notes.Noted.{IsLong, IsHeld, IsNoted, HasNoList, LacksNote, IfUnlisted};
 
-use crate::Kept;
 use crate::errors::NoteError;
 use crate::notes::passing::{passes_arms, passes_block};
 use crate::notes::statuses::listed;
 use std::alloc::Global;
 use vlt_base::{Items, StmtId, either};
 use vlt_core::{Note, TokMap};
+use vlt_flow_maps::Kept;
 use vlt_keyset::TokenCounts;
 use vlt_rows::{Flow, FlowArm, FlowBlock, FlowStmt};
 

@@ -20,7 +20,7 @@ use Rattle.vlt_core_laws.proofs.Starting.{made_at, within_origin}
 use Rattle.vlt_core_laws.proofs.Headed.{head_empty, entries_fit, each_at}
 use Rattle.vlt_core_laws.proofs.Unbroken.{filled_not_empty, some_same}
 use Rattle.vlt_flow.specs.Unfit as walk
-use Rattle.vlt_flow.specs.Unfit.{IsUnfitEntry, wide_entry, stray_entry, HasNoStart, many_keys, many_vars, unfit_entry}
+use Rattle.vlt_flow_maps.specs.Unfit.{IsUnfitEntry, wide_entry, stray_entry, HasNoStart, many_keys, many_vars, unfit_entry}
 use Rattle.vlt_check.specs.Unfit as unfit
 use Rattle.vlt_check.specs.Unfit.{IsUnfitBody, no_walk, no_fault, IsUnfit, many_functions, unfit_body}
 use Rattle.vlt_core_laws.specs.Fit.{IsWellFormed}

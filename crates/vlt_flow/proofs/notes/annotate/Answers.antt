@@ -4,8 +4,8 @@ use Rattle.vlt_core.specs.Instances.{instance}
 use Rattle.vlt_core.specs.View.{program_of, func_of}
 use Rattle.vlt_keyset.specs.Held.{map_of}
 use Rattle.vlt_rows.specs.FlowView.{block_view}
-use Rattle.vlt_flow.proofs.Passing.{stop_through}
-use Rattle.vlt_flow.proofs.Starting.{none_in}
+use Rattle.vlt_flow.proofs.Stopping.{stop_through}
+use Rattle.vlt_flow.proofs.FromStart.{none_in}
 use Rattle.vlt_flow.specs.Notes.Listed.{note_of}
 use Rattle.vlt_flow.specs.Notes.Noted.{AreNotes}
 use Rattle.vlt_flow.proofs.OfNotes.Noting.{if_more}

@@ -5,14 +5,16 @@ use Rattle.vlt_core.specs.Core.{Tok}
 use Rattle.vlt_core.specs.Maps.{HeldMap, away_row, Row}
 use Rattle.vlt_core.specs.Flow.{Block, block, Stmts, scope, focus, size, size_block, size_stmts, size_arms}
 use Rattle.vlt_rows.specs.declared.tree.FlowBlock.{out-FlowBlock}
-use Rattle.vlt_flow.specs.declared.walking.Walked.{Walked}
-use Rattle.vlt_flow.specs.Walks.{Marks, slot, Passes, IsWalked, IsLeft, form_part, block_part, stmts_part}
+use Rattle.vlt_flow_maps.specs.declared.ends.Walked.{Walked}
+use Rattle.vlt_flow.specs.Walks.{IsWalked, form_part, block_part, stmts_part}
+use Rattle.vlt_flow_maps.specs.Kept.{Marks, slot}
+use Rattle.vlt_flow_maps.specs.Passed.{Passes, IsLeft}
 use Rattle.vlt_core.specs.HeldView.{toks_of}
 use Rattle.vlt_rows.specs.FlowView.{block_view, arms_view, stmts_view, rows_view}
 use Rattle.vlt_rows.proofs.Views.{block_parts, step_form, if_form, while_form, switch_form, scope_form, focus_form, return_form, jump_form}
-use Rattle.vlt_flow.specs.declared.errors.Halt.{Halt}
+use Rattle.vlt_flow_maps.specs.declared.errors.Halt.{Halt}
 use Rattle.vlt_keyset.specs.Held.{Statuses, map_of}
-use Rattle.vlt_flow.proofs.Passing.{handed, refused_through, split_at}
+use Rattle.vlt_flow_maps.proofs.Passing.{handed, refused_through, split_at}
 use Rattle.vlt_flow.proofs.Framing.{room_frame, room_part, room_put}
 use Rattle.vlt_flow.proofs.Parts.{ways_there, step_walked, step_none, return_walked, return_none, jump_walked, jump_none, focus_walked, focus_rows_none, focus_body_none, focus_end_none, scope_walked, scope_none, block_walked, block_list_none, block_end_none, way_passes_none, way_passes_some, way_none, way_some, way_body_none, way_join_none, choose_walked, choose_rows_none, choose_first_none, choose_second_none, switch_walked, switch_rows_none, switch_arms_none}
 use Rattle.vlt_flow.proofs.Turning.{room_inside, turn_none, turn_some, turn_rows_none, turn_exit_none, turn_body_none, turn_back_none, turning_first, turning_more, turning_stops, turning_some, turning_room, turned, gap_less, loop_walked, loop_turns_none, arming_first, arming_room, arming_more, arming_ends, arming_at, arming_passes, arming_rows_none, arming_way_none, listing_first, listing_room, listing_more, listing_ends, listing_at, listing_none, listing_small, arming_small}

@@ -2,7 +2,8 @@ use Rattle.std.proofs.Common.{◌+◌, ◌*◌}
 use Rattle.vlt_core.specs.Flow.{size, size_block, size_stmts, size_arms}
 use Rattle.vlt_rows.specs.FlowView.{rows_view, block_view, flow_view, stmts_view, arms_view}
 use Rattle.vlt_keyset.specs.Held.{map_of}
-use Rattle.vlt_flow.specs.Walks.{slot, choice_of}
+use Rattle.vlt_flow.specs.Walks.{choice_of}
+use Rattle.vlt_flow_maps.specs.Kept.{slot}
 use Rattle.vlt_flow.proofs.Turning.{Turning, gap_in, Arming, Listing}
 use Rattle.vlt_flow.proofs.walking.+walk.Given as goal
 

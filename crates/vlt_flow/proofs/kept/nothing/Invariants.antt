@@ -1,6 +1,0 @@
-use Rattle.std.proofs.Common.{◌≡◌, ℕ, length, None}
-use Rattle.vlt_flow.specs.Walks.{slot}
-use Rattle.vlt_flow.proofs.kept.nothing.Given as goal
-
-abbrev pub invariant-loop-i : goal.invariant-loop-i
-invariant-loop-i l = record { long : length l.table.items ≡ l._i; none : (i : ℕ) → slot l.table.items i ≡ None }
