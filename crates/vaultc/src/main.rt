@@ -10,7 +10,7 @@ use std::env;
 use std::io::{self, ErrorKind};
 use std::process::ExitCode;
 use std::rt::{Env, Files};
-use vaultc_core::status::{NO_COMMAND, NO_MEMORY, SINK_FAILED};
+use vaultc_runs::{NO_COMMAND, NO_MEMORY, SINK_FAILED};
 use vaultc_core::vaultc;
 use vlt_io::{DirStore, Logged, OutSink};
 

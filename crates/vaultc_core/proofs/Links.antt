@@ -17,21 +17,22 @@ use Rattle.vlt_verdict.specs.Verdicts.{Verdict, refused, faulty, accepted}
 use Rattle.vlt_verdict.proofs.Single.{fit_program}
 use Rattle.vlt_view_verdict.specs.Verdicts.{IsVerdictOfView}
 use Rattle.vlt_view_verdict.specs.Link.{IsAcceptedWith}
-use Rattle.vaultc_core.specs.declared.status.TheConstants.{DONE}
-use Rattle.vaultc_core.specs.Commands.{Command, link}
-use Rattle.vaultc_core.specs.Finishes.{Finishes}
-use Rattle.vaultc_core.specs.Lines.{Reply, reply, in_file}
-use Rattle.vaultc_core.specs.Texts.{IsTextOf, Refusal, refusal_reply}
-use Rattle.vaultc_core.specs.Sources.{had, unread, too_long, sources_of, read_in, MayRead, bytes_at}
-use Rattle.vaultc_core.specs.Emitted.{c_text, c_file, IsEmitted}
-use Rattle.vaultc_core.specs.Modules.{File, file_with, IsReplyByTreeIn, IsReplyToViewVerdict, IsReplyToView, IsReplyToJoined, IsReplyToLink}
-use Rattle.vaultc_core.specs.Replies.{MayReply}
+use Rattle.vaultc_runs.specs.declared.status.TheConstants.{DONE}
+use Rattle.vaultc_words.specs.Commands.{Command, link}
+use Rattle.vaultc_runs.specs.Finishes.{Finishes}
+use Rattle.vaultc_runs.specs.Lines.{Reply, reply, in_file}
+use Rattle.vaultc_runs.specs.Texts.{IsTextOf, Refusal, refusal_reply}
+use Rattle.vaultc_words.specs.Sources.{had, unread, too_long, sources_of, read_in, MayRead, bytes_at}
+use Rattle.vaultc_replies.specs.Emitted.{c_text, c_file, IsEmitted}
+use Rattle.vaultc_replies.specs.Modules.{File, file_with, IsReplyByTreeIn, IsReplyToViewVerdict, IsReplyToView, IsReplyToJoined, IsReplyToLink}
+use Rattle.vaultc_replies.specs.Replies.{MayReply}
 use Rattle.vaultc_core.specs.Linked.{IsLinked}
-use Rattle.vaultc_core.proofs.Reading.{told_as}
-use Rattle.vaultc_core.proofs.Hosts.{all_told}
-use Rattle.vaultc_core.proofs.Promises.{GoRight, not_zero, status_of, no_refusal}
-use Rattle.vaultc_core.proofs.Compiles.{Laws, accepted_tree, text_there, certified}
-use Rattle.vaultc_core.proofs.Linked.{LinkLaws, linked as linked_in, tree_of_texts}
+use Rattle.vaultc_words.proofs.Reading.{told_as}
+use Rattle.vaultc_replies.proofs.Hosts.{all_told}
+use Rattle.vaultc_replies.proofs.Promises.{GoRight, not_zero, status_of, no_refusal}
+use Rattle.vaultc_core.proofs.Compiles.{Laws}
+use Rattle.vaultc_replies.proofs.CFiles.{accepted_tree, text_there, certified}
+use Rattle.vaultc_replies.proofs.Linked.{LinkLaws, linked as linked_in, tree_of_texts}
 use Rattle.cert_emit.specs.Certificates.{certificate_of}
 
 -- ---- texts

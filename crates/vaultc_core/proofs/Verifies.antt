@@ -9,16 +9,16 @@ use Rattle.c_reader.specs.declared.error.CError.{CError}
 use Rattle.c_reader.specs.declared.error.CError.TheVariants as error
 use Rattle.cert_verify.specs.Refusals.{Refusal, unread, no_certificate, kind, local, not_lowered}
 use Rattle.cert_verify_laws.specs.Promises.{VerifiedFilesKeepTheirPromise}
-use Rattle.vaultc_core.specs.declared.status.TheConstants.{DONE}
-use Rattle.vaultc_core.specs.Commands.{Command, verify}
-use Rattle.vaultc_core.specs.Finishes.{Finishes}
-use Rattle.vaultc_core.specs.Lines.{reply}
-use Rattle.vaultc_core.specs.Sources.{had, unread as not_had, too_long, c_text_in, IsOneRead, IsOver, bytes_at}
-use Rattle.vaultc_core.specs.Replies.{MayReply}
-use Rattle.vaultc_core.specs.Verifying.{unread_reply, unverified_reply, IsReplyToVerify}
+use Rattle.vaultc_runs.specs.declared.status.TheConstants.{DONE}
+use Rattle.vaultc_words.specs.Commands.{Command, verify}
+use Rattle.vaultc_runs.specs.Finishes.{Finishes}
+use Rattle.vaultc_runs.specs.Lines.{reply}
+use Rattle.vaultc_words.specs.Sources.{had, unread as not_had, too_long, c_text_in, IsOneRead, IsOver, bytes_at}
+use Rattle.vaultc_replies.specs.Replies.{MayReply}
+use Rattle.vaultc_replies.specs.Verifying.{unread_reply, unverified_reply, IsReplyToVerify}
 use Rattle.vaultc_core.specs.Verified.{IsVerified}
-use Rattle.vaultc_core.proofs.Promises.{not_zero, status_of}
-use Rattle.vaultc_core.proofs.Reading.{one_read, read_there}
+use Rattle.vaultc_replies.proofs.Promises.{not_zero, status_of}
+use Rattle.vaultc_words.proofs.Reading.{one_read, read_there}
 
 no_error : (text : List ℕ) (e : CError) → reply DONE text ≡ unread_reply e → ⊥
 no_error text (error.Unexpected at) e = not_zero 11 (status_of text _ e)

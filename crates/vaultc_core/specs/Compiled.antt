@@ -10,8 +10,8 @@ use Rattle.cert_format.specs.Notes.{Note}
 use Rattle.cert_least_laws.specs.LeastNotes.{IsLeastCertificate}
 use Rattle.cert_format.specs.Places.{unplaced_program}
 use Rattle.cert_verify.specs.Verified.{IsVerifiedFile}
-use Rattle.vaultc_core.specs.Programs.{IsProgramOf}
-use Rattle.vaultc_core.specs.Emitted.{c_text, c_file}
+use Rattle.vaultc_replies.specs.Programs.{IsProgramOf}
+use Rattle.vaultc_replies.specs.Emitted.{c_text, c_file}
 
 -- The bytes are the text of a program that follows the rules; where files are told, they are all of the file's. Its C file was
 -- written, and reads as its C program, with the certificate after it. A run of that one does what a run of the program does, and

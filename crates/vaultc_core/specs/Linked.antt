@@ -14,10 +14,10 @@ use Rattle.cert_format.specs.Notes.{Note}
 use Rattle.cert_format.specs.Places.{unplaced_program}
 use Rattle.cert_least_laws.specs.LeastNotes.{IsLeastCertificate}
 use Rattle.cert_verify.specs.Verified.{IsVerifiedFile}
-use Rattle.vaultc_core.specs.Commands.{Command}
-use Rattle.vaultc_core.specs.Sources.{had, sources_of, read_in, bytes_at}
-use Rattle.vaultc_core.specs.Texts.{IsTextOf}
-use Rattle.vaultc_core.specs.Emitted.{c_text, c_file}
+use Rattle.vaultc_words.specs.Commands.{Command}
+use Rattle.vaultc_words.specs.Sources.{had, sources_of, read_in, bytes_at}
+use Rattle.vaultc_runs.specs.Texts.{IsTextOf}
+use Rattle.vaultc_replies.specs.Emitted.{c_text, c_file}
 
 -- The bytes are the texts of an interface and of two modules, which are together a program that follows all rules; where files
 -- are told, they are all of the files'. No run of it goes wrong. Its C file was written, which is all that `emit` promises of one.

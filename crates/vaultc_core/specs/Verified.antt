@@ -5,7 +5,7 @@ use Rattle.vlt_io.specs.Outside.{Files, Grew}
 use Rattle.cert_format.specs.Notes.{Note}
 use Rattle.cert_verify.specs.Verified.{IsVerifiedFile}
 use Rattle.cert_verify_laws.specs.Promises.{KeepsItsPromise}
-use Rattle.vaultc_core.specs.Verifying.{verified_line}
+use Rattle.vaultc_replies.specs.Verifying.{verified_line}
 
 -- The bytes are a C file that verifies: its C text is the lowering of the program that its certificate says. That program
 -- follows all rules, and no run of it goes wrong; a run of the C program does what a run of the program does, and breaks no

@@ -8,36 +8,34 @@ ghost use Rattle.vlt_verdict.specs.FitLaws.Fit.{IsTextTree};
 ghost use Rattle.vlt_numbers.specs.Given.Given.{given_by};
 ghost use Rattle.vlt_verdict.specs.Seen.{IsTellable};
 ghost use Rattle.vlt_interp.specs.Reached.{IsRunnable};
-ghost use Rattle.vaultc_core.specs.Callable.{IsRunnableForHosts};
-ghost use Rattle.vaultc_core.specs.Commands as c;
-ghost use Rattle.vaultc_core.specs.Commands.{command_of};
-ghost use Rattle.vaultc_core.specs.Texts.{IsTooLong, IsTextOf};
-ghost use Rattle.vaultc_core.specs.Replies.{IsReplyToText, IsReplyToRunText, MayReply};
-ghost use Rattle.vaultc_core.specs.Finishes.{Finishes};
-ghost use Rattle.vaultc_core.specs.View.{seen_command, seen_taken, seen_text};
-ghost use Rattle.vaultc_core.specs.Shown.{AreShort, IsJudged, IsReplyToCaller, IsShortCaller, shown_reply, AreShortModules, AreShortLinked};
-ghost use Rattle.vaultc_core.specs.Modules.{file_with, IsReplyToModule, IsReplyToLink};
+ghost use Rattle.vaultc_runs.specs.Callable.{IsRunnableForHosts};
+ghost use Rattle.vaultc_words.specs.Commands as c;
+ghost use Rattle.vaultc_words.specs.Commands.{command_of};
+ghost use Rattle.vaultc_runs.specs.Texts.{IsTooLong, IsTextOf};
+ghost use Rattle.vaultc_replies.specs.Replies.{IsReplyToText, IsReplyToRunText, MayReply};
+ghost use Rattle.vaultc_runs.specs.Finishes.{Finishes};
+ghost use Rattle.vaultc_words.specs.View.{seen_command, seen_taken, seen_text};
+ghost use Rattle.vaultc_words.specs.FilesSeen.{AreShort, AreShortModules, AreShortLinked};
+ghost use Rattle.vaultc_replies.specs.Judged.{IsJudged};
+ghost use Rattle.vaultc_runs.specs.Shown.{IsReplyToCaller, IsShortCaller, shown_reply};
+ghost use Rattle.vaultc_replies.specs.Modules.{file_with, IsReplyToModule, IsReplyToLink};
 
-use crate::c_runs::run_c;
 use crate::emit::{accepted, compiled};
 use crate::explain::explained;
-use crate::files::{
-    LinkFiles, ModuleFiles, RunFiles, read_file, read_host_files, read_link_files,
-    read_module_files, read_run_files,
-};
-use crate::host_runs::run_host;
 use crate::judged::judge_text;
-use crate::lines::{USAGE, laid_out, not_had, not_had_in, refusal, verdict};
+use crate::links::link_reply;
 use crate::load::load;
-use crate::modules::{NamedText, link_reply, module_reply};
-use crate::reply::Reply;
-use crate::runs::{Caller, run_program};
-use crate::source::read_tree;
-use crate::status::{NO_COMMAND, NO_MEMORY};
-use crate::verify::verified;
-use crate::words::{Command, Taken, TextCommand, read_command};
-use crate::write::{finish, finish_reply};
 use std::alloc::{AllocError, Global};
+use vaultc_replies::{NamedText, module_reply, read_tree, verdict, verified};
+use vaultc_runs::status::{NO_COMMAND, NO_MEMORY};
+use vaultc_runs::{
+    Caller, Reply, USAGE, finish, finish_reply, laid_out, not_had, not_had_in, refusal, run_c,
+    run_host, run_program,
+};
+use vaultc_words::{
+    Command, LinkFiles, ModuleFiles, RunFiles, Taken, TextCommand, read_command, read_file,
+    read_host_files, read_link_files, read_module_files, read_run_files,
+};
 use vlt_base::{Budgets, C_BYTES, SOURCE_BYTES};
 use vlt_core::Program;
 use vlt_host_laws::hosts_of_accepted_programs_go_right;

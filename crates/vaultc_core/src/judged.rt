@@ -4,8 +4,8 @@ ghost use Rattle.std.specs.Prelude.{List, ℕ, IfOk};
 ghost use Rattle.vlt_syntax.specs.View.{tree_of};
 ghost use Rattle.vlt_verdict.specs.FitLaws.Fit.{IsTextTree};
 ghost use Rattle.vlt_verdict.specs.Seen.{IsTellable};
-ghost use Rattle.vaultc_core.specs.Shown.{IsJudged};
-ghost use Rattle.vaultc_core.specs.Texts.{IsTextOf};
+ghost use Rattle.vaultc_replies.specs.Judged.{IsJudged};
+ghost use Rattle.vaultc_runs.specs.Texts.{IsTextOf};
 
 use cert_verify_laws::texts_are_judged;
 use std::alloc::{AllocError, Global};

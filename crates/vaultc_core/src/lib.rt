@@ -1,5 +1,5 @@
 //! The program's commands: words and files go in, a status comes out, and lines go to a sink.
-//! Read `specs/Replies.antt` (IsReplyTo) first.
+//! Read `vaultc_replies/specs/Replies.antt` (IsReplyTo) first.
 //! Used by: the program `vaultc`. Its clause `promised` stands on `vlt_sound::accepted_programs_go_right`.
 #![tactic(auto)]
 
@@ -7,41 +7,28 @@ ghost use Rattle.std.specs.Prelude.{◌≡◌, ◌⊎◌, ℕ, List, None, Some,
 ghost use Rattle.vlt_core.specs.Core.{Program};
 ghost use Rattle.vlt_core.specs.Derives.{IsAccepted};
 ghost use Rattle.vlt_io.specs.Outside.{Files, Rose, Grew, GrewByPart};
-ghost use Rattle.vaultc_core.specs.Commands as commands;
-ghost use Rattle.vaultc_core.specs.Commands.{command_of};
-ghost use Rattle.vaultc_core.specs.Lines as lines;
-ghost use Rattle.vaultc_core.specs.declared.status.TheConstants.{DONE, NO_COMMAND, UNREAD, SINK_FAILED, NO_MEMORY};
-ghost use Rattle.vaultc_core.specs.Texts.{AreReadInOneWay};
-ghost use Rattle.vaultc_core.specs.Programs.{IsProgramOf};
-ghost use Rattle.vaultc_core.specs.Replies.{HasOneReply, HasSomeReply, IsReplyTo, IsInside, IsUnread, MayReply};
-ghost use Rattle.vaultc_core.specs.Sources.{AllRead, IsOneRead, c_text_in, text_in};
-ghost use Rattle.vaultc_core.specs.Finishes.{Finishes, WithoutFault, WrotePart, WroteReply};
-ghost use Rattle.vaultc_core.specs.Promised.{IsPromised};
+ghost use Rattle.vaultc_words.specs.Commands as commands;
+ghost use Rattle.vaultc_words.specs.Commands.{command_of};
+ghost use Rattle.vaultc_runs.specs.Lines as lines;
+ghost use Rattle.vaultc_runs.specs.declared.status.TheConstants.{DONE, NO_COMMAND, UNREAD, SINK_FAILED, NO_MEMORY};
+ghost use Rattle.vaultc_runs.specs.Texts.{AreReadInOneWay};
+ghost use Rattle.vaultc_replies.specs.Programs.{IsProgramOf};
+ghost use Rattle.vaultc_replies.specs.Replies.{HasOneReply, HasSomeReply, IsReplyTo, IsInside, IsUnread, MayReply};
+ghost use Rattle.vaultc_words.specs.Sources.{AllRead, IsOneRead, c_text_in, text_in};
+ghost use Rattle.vaultc_runs.specs.Finishes.{Finishes, WithoutFault, WrotePart, WroteReply};
+ghost use Rattle.vaultc_replies.specs.Promised.{IsPromised};
 ghost use Rattle.vaultc_core.specs.Compiled.{IsCompiled};
 ghost use Rattle.vaultc_core.specs.Verified.{IsVerified};
-ghost use Rattle.vaultc_core.specs.Hosted.{IsHosted, IsOfARun};
+ghost use Rattle.vaultc_replies.specs.Hosted.{IsHosted, IsOfARun};
 ghost use Rattle.vaultc_core.specs.Linked.{IsLinked};
 
-mod c_runs;
 mod commands;
 mod emit;
 mod explain;
-mod files;
-mod generated;
-mod host_runs;
 mod judged;
-mod kept;
-mod lines;
+mod links;
 mod load;
-mod modules;
-mod reply;
-mod runs;
-mod source;
 pub mod status;
-mod variables;
-mod verify;
-mod words;
-mod write;
 
 use c_lower_accepted::trees_are_lowered_rightly;
 use c_lower_printed::accepted_texts_are_read_again;

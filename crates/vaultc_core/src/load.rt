@@ -1,134 +1,33 @@
 //! From a number of functions to what `load` says of the generated program.
 
-ghost use Rattle.std.specs.Prelude.{◌≡◌, IfOk};
 ghost use Rattle.vlt_core.specs.View.{program_of};
 ghost use Rattle.vlt_interp.specs.Reached.{IsRunnable};
 ghost use Rattle.vlt_load.specs.Generated.{generated_text};
 ghost use Rattle.vlt_syntax.specs.View.{tree_of};
 ghost use Rattle.vlt_verdict.specs.FitLaws.Fit.{IsTextTree};
 ghost use Rattle.vlt_verdict.specs.Seen.{IsTellable};
-ghost use Rattle.vaultc_core.specs.Compilable.{IsCompilable};
-ghost use Rattle.vaultc_core.specs.Finishes.{Finishes};
-ghost use Rattle.vaultc_core.specs.Loads as l;
-ghost use Rattle.vaultc_core.specs.Loads.{IsLoaded, IsReplyAfterEmit, load_counts, load_reply};
-ghost use Rattle.vaultc_core.specs.Loading.{is_done, is_cut};
-ghost use Rattle.vaultc_core.specs.Replies.{IsReplyToMade};
-ghost use Rattle.vaultc_core.specs.Shown.{IsJudged, shown_reply};
-ghost use Rattle.vaultc_core.specs.Texts.{IsTextOf};
+ghost use Rattle.vaultc_replies.specs.Compilable.{IsCompilable};
+ghost use Rattle.vaultc_runs.specs.Finishes.{Finishes};
+ghost use Rattle.vaultc_replies.specs.Loads.{IsLoaded};
+ghost use Rattle.vaultc_replies.specs.Replies.{IsReplyToMade};
+ghost use Rattle.vaultc_replies.specs.Judged.{IsJudged};
+ghost use Rattle.vaultc_runs.specs.Shown.{shown_reply};
+ghost use Rattle.vaultc_runs.specs.Texts.{IsTextOf};
 
 use crate::emit::{accepted, emitted};
-use crate::generated::{Functions, Generated};
 use crate::judged::judge_text;
-use crate::kept::Kept;
-use crate::lines::{refusal, verdict};
-use crate::reply::Reply;
-use crate::runs::finish_end;
-use crate::source::read_tree;
-use crate::status::{DONE, NO_MEMORY};
-use crate::words::default_budgets;
-use crate::write::{finish, finish_reply};
 use std::alloc::{AllocError, Global};
+use vaultc_replies::{read_tree, run_compiled, verdict};
+use vaultc_runs::status::{DONE, NO_MEMORY};
+use vaultc_runs::{finish, finish_reply, refusal};
+use vaultc_words::{Functions, Generated, generate};
 use vlt_base::Memory;
 use vlt_core::Program;
-use vlt_interp::runs::run;
 use vlt_io::Sink;
-use vlt_load::make;
-use vlt_numbers::cut;
-use vlt_reports::bodies;
 use vlt_run_laws::{accepted_programs_know_their_calls, kinded_programs_name_their_own};
 use vlt_sound::accepted_programs_go_right;
-use vlt_steps::{RunEnd, Stop};
 use vlt_syntax::Tree;
 use vlt_verdict::{Verdict, programs_are_fit, texts_have_text_trees};
-
-/// The most bytes that are told of what a run printed.
-const MOST_PRINTED: usize = 20;
-
-/// What a text has before its first line feed, cut after so many bytes as are told.
-fn first_line(text: &[u8]) -> &[u8]
-    ensures { result.now ≡ l.first_line text.now }
-{
-    let (line, _) = cut(text, b"\n");
-    &line[..line.len().min(MOST_PRINTED)]
-}
-
-/// The line of `load` up to what was printed.
-fn counts(
-    alloc: Global,
-    functions: u32,
-    bytes: usize,
-    with_body: usize,
-    emitted: usize,
-) -> Result<Vec<u8>, AllocError>
-    ensures { IfOk result (λ v. v.items ≡ load_counts functions bytes with_body emitted) }
-{
-    let text = format!(in alloc;
-        "load {functions} bytes {bytes} functions {with_body} emitted {emitted} printed "
-    )?;
-    Ok(text.into_bytes())
-}
-
-/// The numbers of a generated program whose C file has so many bytes, and whose run wrote these events.
-fn numbers(
-    alloc: Global,
-    made: &Generated,
-    program: &Program,
-    emitted: usize,
-    events: &[u8],
-) -> Result<Reply, AllocError>
-    ensures { IfOk result (λ r. shown_reply r
-        ≡ load_reply made.now.functions made.now.text.items (program_of program.now)
-        emitted events.now) }
-{
-    let mut text = counts(
-        alloc,
-        made.functions,
-        made.text.len(),
-        bodies(program),
-        emitted,
-    )?;
-    text.extend_from_slice(first_line(events))?;
-    text.extend_from_slice(b"\n")?;
-    Ok(Reply { status: DONE, text })
-}
-
-/// Whether a run came to the end of `main`.
-fn is_done(end: &RunEnd<Stop>) -> bool
-    ensures { result ≡ is_done end.now }
-{
-    matches!(end, RunEnd::Stopped(Stop::Done))
-}
-
-/// Whether a run was cut off, as there was no memory for its events.
-fn is_cut(end: &RunEnd<Stop>) -> bool
-    ensures { result ≡ is_cut end.now }
-{
-    matches!(end, RunEnd::Stopped(Stop::SinkFault))
-}
-
-/// Runs a program whose C file has so many bytes.
-fn run_compiled<K: Sink>(
-    alloc: Global,
-    made: &Generated,
-    program: &Program,
-    emitted: usize,
-    out: &mut K,
-) -> u8
-    requires { IsRunnable (program_of program.now) }
-    ensures { Finishes K.Sink
-        (IsReplyAfterEmit made.now.functions made.now.text.items (program_of program.now) emitted)
-        out.old out.new result }
-{
-    let mut events = Kept::new(alloc);
-    let end = run(alloc, program, &[], &[], default_budgets(), &mut events);
-    if is_done(&end) {
-        return finish_reply(out, numbers(alloc, made, program, emitted, events.bytes()));
-    }
-    if is_cut(&end) {
-        return NO_MEMORY;
-    }
-    finish_end(alloc, end, out)
-}
 
 /// Compiles an accepted program, and then runs it.
 fn compile_and_run<K: Sink>(alloc: Global, made: &Generated, program: &Program, out: &mut K) -> u8
@@ -189,19 +88,6 @@ fn load_text<K: Sink>(alloc: Global, made: &Generated, out: &mut K) -> u8
         Ok(judged) => load_judged(alloc, made, &tree, &judged, out),
         Err(AllocError) => NO_MEMORY,
     }
-}
-
-/// The generated program of so many functions.
-fn generate(alloc: Global, functions: Functions) -> Result<Generated, Memory>
-    ensures functions { IfOk result (λ made. made.functions ≡ functions.count) }
-    ensures text { IfOk result (λ made. made.text.items ≡ generated_text functions.count) }
-{
-    let count = functions.count;
-    let text = make(alloc, count)?;
-    Ok(Generated {
-        functions: count,
-        text,
-    })
 }
 
 /// Makes the program of so many functions, compiles it and runs it.

@@ -1,4 +1,4 @@
-use Rattle.vaultc_core.proofs.Single.{one_of_read}
+use Rattle.vaultc_replies.proofs.Single.{one_of_read}
 use Rattle.vaultc_core.proofs.a_command_has_one_reply.Goals as goal
 
 pub returns : goal.returns

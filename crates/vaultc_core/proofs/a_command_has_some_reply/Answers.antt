@@ -1,4 +1,4 @@
-use Rattle.vaultc_core.proofs.Some.{some_of_read}
+use Rattle.vaultc_replies.proofs.Some.{some_of_read}
 use Rattle.vaultc_core.proofs.a_command_has_some_reply.Goals as goal
 
 pub returns : goal.returns

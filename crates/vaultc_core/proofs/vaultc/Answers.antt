@@ -1,13 +1,13 @@
 use Rattle.std.proofs.Common.{map}
 use Rattle.std.specs.Prelude.{string_bytes}
-use Rattle.vaultc_core.specs.Commands.{command_of}
-use Rattle.vaultc_core.proofs.Promises.{GoRight, promised, accepts}
+use Rattle.vaultc_words.specs.Commands.{command_of}
+use Rattle.vaultc_replies.proofs.Promises.{GoRight, promised, accepts}
 use Rattle.vaultc_core.proofs.Compiles.{Laws, compiled}
 use Rattle.vaultc_core.proofs.Verifies.{verified}
-use Rattle.vaultc_core.proofs.Hosts.{GoRightForHosts, hosted}
-use Rattle.vaultc_core.proofs.Linked.{LinkLaws}
+use Rattle.vaultc_replies.proofs.Hosts.{GoRightForHosts, hosted}
+use Rattle.vaultc_replies.proofs.Linked.{LinkLaws}
 use Rattle.vaultc_core.proofs.Links.{linked}
-use Rattle.vaultc_core.proofs.Told.{told, memory, complete, no_fault, usage, unread_told}
+use Rattle.vaultc_replies.proofs.Told.{told, memory, complete, no_fault, usage, unread_told}
 use Rattle.vaultc_core.proofs.vaultc.Goals as goal
 
 pub returns-clause-told : goal.returns-clause-told

@@ -1,6 +1,6 @@
 use Rattle.std.proofs.Common.{subst}
-use Rattle.vaultc_core.specs.Finishes.{Finishes}
-use Rattle.vaultc_core.specs.Replies.{MayReply}
+use Rattle.vaultc_runs.specs.Finishes.{Finishes}
+use Rattle.vaultc_replies.specs.Replies.{MayReply}
 use Rattle.vaultc_core.proofs.commands.carry_out.Goals as goal
 
 pub returns-in-Some-clause-finishes : goal.returns-in-Some-clause-finishes

@@ -1,7 +1,7 @@
 use Rattle.std.proofs.Common.{subst}
 use Rattle.std.specs.Prelude.{IfOk}
-use Rattle.vaultc_core.specs.Modules.{file_with, IsReplyToLink}
-use Rattle.vaultc_core.specs.Shown.{shown_reply}
+use Rattle.vaultc_replies.specs.Modules.{file_with, IsReplyToLink}
+use Rattle.vaultc_runs.specs.Shown.{shown_reply}
 use Rattle.vaultc_core.proofs.commands.link_of.Goals as goal
 
 pub returns : goal.returns

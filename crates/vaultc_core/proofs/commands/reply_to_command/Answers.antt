@@ -1,11 +1,11 @@
 use Rattle.std.proofs.Common.{[], Some, refl, sym, subst}
 use Rattle.vlt_load.specs.Generated.{generated_text}
-use Rattle.vaultc_core.specs.Commands.{load}
-use Rattle.vaultc_core.specs.Sources.{had}
-use Rattle.vaultc_core.specs.Finishes.{Finishes}
-use Rattle.vaultc_core.specs.Replies.{IsReplyToMade, MayReply}
-use Rattle.vaultc_core.proofs.Finished.{finishes_as}
-use Rattle.vaultc_core.specs.View.{seen_command}
+use Rattle.vaultc_words.specs.Commands.{load}
+use Rattle.vaultc_words.specs.Sources.{had}
+use Rattle.vaultc_runs.specs.Finishes.{Finishes}
+use Rattle.vaultc_replies.specs.Replies.{IsReplyToMade, MayReply}
+use Rattle.vaultc_runs.proofs.Finished.{finishes_as}
+use Rattle.vaultc_words.specs.View.{seen_command}
 use Rattle.vaultc_core.proofs.commands.reply_to_command.Goals as goal
 
 pub returns-in-Text : goal.returns-in-Text

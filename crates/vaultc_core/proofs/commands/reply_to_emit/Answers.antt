@@ -1,7 +1,7 @@
 use Rattle.vlt_syntax.specs.View.{tree_of}
-use Rattle.vaultc_core.specs.Commands.{emit}
-use Rattle.vaultc_core.specs.Shown.{refusal_of}
-use Rattle.vaultc_core.proofs.Said.{refused_each, compiled_said}
+use Rattle.vaultc_words.specs.Commands.{emit}
+use Rattle.vaultc_runs.specs.Shown.{refusal_of}
+use Rattle.vaultc_replies.proofs.Said.{refused_each, compiled_said}
 use Rattle.vaultc_core.proofs.commands.reply_to_emit.Goals as goal
 
 pub judge_text-requires-clause-text : goal.judge_text-requires-clause-text

@@ -1,8 +1,8 @@
 use Rattle.vlt_syntax.specs.View.{tree_of}
-use Rattle.vaultc_core.specs.Commands.{explain}
-use Rattle.vaultc_core.specs.Shown.{refusal_of}
-use Rattle.vaultc_core.proofs.Explained.{showable}
-use Rattle.vaultc_core.proofs.Said.{refused_each, explained_said}
+use Rattle.vaultc_words.specs.Commands.{explain}
+use Rattle.vaultc_runs.specs.Shown.{refusal_of}
+use Rattle.vaultc_replies.proofs.Explained.{showable}
+use Rattle.vaultc_replies.proofs.Said.{refused_each, explained_said}
 use Rattle.vaultc_core.proofs.commands.reply_to_explain.Goals as goal
 
 pub judge_text-requires-clause-text : goal.judge_text-requires-clause-text

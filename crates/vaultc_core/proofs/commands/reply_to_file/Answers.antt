@@ -1,10 +1,12 @@
 use Rattle.std.proofs.Common.{Some, false}
 use Rattle.std.specs.Prelude.{MatchOption}
-use Rattle.vaultc_core.specs.Replies.{IsReplyToText, IsReplyOver, MayReply}
-use Rattle.vaultc_core.specs.Shown.{IsReplyOf, error_seen}
-use Rattle.vaultc_core.specs.View.{seen_text}
-use Rattle.vaultc_core.proofs.Finished.{finishes_as, reply_is}
-use Rattle.vaultc_core.proofs.Replied.{text_reply, text_sources, error_reply, text_names}
+use Rattle.vaultc_replies.specs.Replies.{IsReplyToText, MayReply}
+use Rattle.vaultc_runs.specs.OverFiles.{IsReplyOver}
+use Rattle.vaultc_runs.specs.Shown.{IsReplyOf}
+use Rattle.vaultc_words.specs.FilesSeen.{error_seen}
+use Rattle.vaultc_words.specs.View.{seen_text}
+use Rattle.vaultc_runs.proofs.Finished.{finishes_as, reply_is}
+use Rattle.vaultc_replies.proofs.Replied.{text_reply, text_sources, error_reply, text_names}
 use Rattle.vaultc_core.proofs.commands.reply_to_file.Goals as goal
 
 pub returns-in-Ok : goal.returns-in-Ok

@@ -1,7 +1,7 @@
 use Rattle.vlt_syntax.specs.View.{tree_of}
-use Rattle.vaultc_core.specs.Commands.{fmt}
-use Rattle.vaultc_core.specs.Shown.{refusal_of}
-use Rattle.vaultc_core.proofs.Said.{refused_each, laid_said}
+use Rattle.vaultc_words.specs.Commands.{fmt}
+use Rattle.vaultc_runs.specs.Shown.{refusal_of}
+use Rattle.vaultc_replies.proofs.Said.{refused_each, laid_said}
 use Rattle.vaultc_core.proofs.commands.reply_to_fmt.Goals as goal
 
 pub returns-in-Ok : goal.returns-in-Ok

@@ -3,16 +3,18 @@ use Rattle.std.specs.Prelude.{MatchOption}
 use Rattle.vlt_core.specs.Core.{Program}
 use Rattle.vlt_numbers.specs.Given.Given.{given_by}
 use Rattle.vlt_host.specs.CallsFile.{calls_of}
-use Rattle.vaultc_core.specs.Commands.{host}
-use Rattle.vaultc_core.specs.Finishes.{Finishes}
-use Rattle.vaultc_core.specs.Lines.{Reply}
-use Rattle.vaultc_core.specs.HostRuns.{IsReplyToHost}
-use Rattle.vaultc_core.specs.Replies.{IsReplyOver, IsReplyToRunText, MayReply}
-use Rattle.vaultc_core.specs.Shown.{IsReplyOf, error_seen}
-use Rattle.vaultc_core.specs.Sources.{had}
-use Rattle.vaultc_core.specs.View.{seen_taken}
-use Rattle.vaultc_core.proofs.Finished.{finishes_as, reply_is}
-use Rattle.vaultc_core.proofs.Replied.{error_reply}
+use Rattle.vaultc_words.specs.Commands.{host}
+use Rattle.vaultc_runs.specs.Finishes.{Finishes}
+use Rattle.vaultc_runs.specs.Lines.{Reply}
+use Rattle.vaultc_runs.specs.HostRuns.{IsReplyToHost}
+use Rattle.vaultc_runs.specs.OverFiles.{IsReplyOver}
+use Rattle.vaultc_replies.specs.Replies.{IsReplyToRunText, MayReply}
+use Rattle.vaultc_runs.specs.Shown.{IsReplyOf}
+use Rattle.vaultc_words.specs.FilesSeen.{error_seen}
+use Rattle.vaultc_words.specs.Sources.{had}
+use Rattle.vaultc_words.specs.View.{seen_taken}
+use Rattle.vaultc_runs.proofs.Finished.{finishes_as, reply_is}
+use Rattle.vaultc_replies.proofs.Replied.{error_reply}
 use Rattle.vaultc_core.proofs.commands.reply_to_host.Goals as goal
 
 pub returns-in-Ok : goal.returns-in-Ok

@@ -1,12 +1,14 @@
 use Rattle.std.proofs.Common.{true, [], ◌∷◌, Some, refl}
 use Rattle.std.specs.Prelude.{MatchOption}
-use Rattle.vaultc_core.specs.Commands.{modules}
-use Rattle.vaultc_core.specs.Modules.{file_with, IsReplyToModule}
-use Rattle.vaultc_core.specs.Replies.{IsReplyOver, MayReply}
-use Rattle.vaultc_core.specs.Shown.{IsReplyOf, error_seen}
-use Rattle.vaultc_core.specs.Sources.{had}
-use Rattle.vaultc_core.proofs.Finished.{finishes_as, reply_is}
-use Rattle.vaultc_core.proofs.Replied.{error_reply}
+use Rattle.vaultc_words.specs.Commands.{modules}
+use Rattle.vaultc_replies.specs.Modules.{file_with, IsReplyToModule}
+use Rattle.vaultc_runs.specs.OverFiles.{IsReplyOver}
+use Rattle.vaultc_replies.specs.Replies.{MayReply}
+use Rattle.vaultc_runs.specs.Shown.{IsReplyOf}
+use Rattle.vaultc_words.specs.FilesSeen.{error_seen}
+use Rattle.vaultc_words.specs.Sources.{had}
+use Rattle.vaultc_runs.proofs.Finished.{finishes_as, reply_is}
+use Rattle.vaultc_replies.proofs.Replied.{error_reply}
 use Rattle.vaultc_core.proofs.commands.reply_to_module.Goals as goal
 
 pub returns-in-Ok : goal.returns-in-Ok

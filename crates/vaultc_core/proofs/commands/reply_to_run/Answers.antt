@@ -1,17 +1,18 @@
 use Rattle.std.proofs.Common.{[], ◌∷◌, Some, false, refl}
-use Rattle.vaultc_core.specs.Commands.{run}
+use Rattle.vaultc_words.specs.Commands.{run}
 use Rattle.vlt_numbers.specs.Given.Given.{given_by}
 use Rattle.vlt_core.specs.Core.{Program}
-use Rattle.vaultc_core.specs.Lines.{Reply}
-use Rattle.vaultc_core.specs.Runs.{IsReplyToProgram}
-use Rattle.vaultc_core.specs.Replies.{IsReplyToRunText, MayReply}
-use Rattle.vaultc_core.specs.Shown.{IsReplyOf, error_seen}
-use Rattle.vaultc_core.specs.Sources.{had}
+use Rattle.vaultc_runs.specs.Lines.{Reply}
+use Rattle.vaultc_runs.specs.Runs.{IsReplyToProgram}
+use Rattle.vaultc_replies.specs.Replies.{IsReplyToRunText, MayReply}
+use Rattle.vaultc_runs.specs.Shown.{IsReplyOf}
+use Rattle.vaultc_words.specs.FilesSeen.{error_seen}
+use Rattle.vaultc_words.specs.Sources.{had}
 use Rattle.std.specs.Prelude.{MatchOption}
-use Rattle.vaultc_core.specs.Replies.{IsReplyOver}
-use Rattle.vaultc_core.specs.View.{seen_taken}
-use Rattle.vaultc_core.proofs.Finished.{finishes_as, reply_is}
-use Rattle.vaultc_core.proofs.Replied.{error_reply}
+use Rattle.vaultc_runs.specs.OverFiles.{IsReplyOver}
+use Rattle.vaultc_words.specs.View.{seen_taken}
+use Rattle.vaultc_runs.proofs.Finished.{finishes_as, reply_is}
+use Rattle.vaultc_replies.proofs.Replied.{error_reply}
 use Rattle.vaultc_core.proofs.commands.reply_to_run.Goals as goal
 
 pub returns-in-Ok : goal.returns-in-Ok

@@ -1,10 +1,10 @@
 use Rattle.std.proofs.Common.{ℕ, List, sym, subst}
-use Rattle.vaultc_core.specs.Commands.{check, explain, fmt, emit}
-use Rattle.vaultc_core.specs.Finishes.{Finishes}
-use Rattle.vaultc_core.specs.Replies.{IsReplyToText}
-use Rattle.vaultc_core.specs.Shown.{IsReplyOf}
-use Rattle.vaultc_core.specs.View.{seen_text}
-use Rattle.vaultc_core.proofs.Finished.{finishes_as, reply_is}
+use Rattle.vaultc_words.specs.Commands.{check, explain, fmt, emit}
+use Rattle.vaultc_runs.specs.Finishes.{Finishes}
+use Rattle.vaultc_replies.specs.Replies.{IsReplyToText}
+use Rattle.vaultc_runs.specs.Shown.{IsReplyOf}
+use Rattle.vaultc_words.specs.View.{seen_text}
+use Rattle.vaultc_runs.proofs.Finished.{finishes_as, reply_is}
 use Rattle.vaultc_core.proofs.commands.reply_to_text.Goals as goal
 
 pub returns-in-Check : goal.returns-in-Check

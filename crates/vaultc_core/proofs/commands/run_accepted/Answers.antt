@@ -1,8 +1,8 @@
 use Rattle.std.proofs.Common.{sym, subst}
 use Rattle.vlt_core.specs.View.{program_of}
 use Rattle.vlt_numbers.specs.Given.Given.{given_by}
-use Rattle.vaultc_core.specs.Finishes.{Finishes}
-use Rattle.vaultc_core.specs.Shown.{IsReplyToCaller}
+use Rattle.vaultc_runs.specs.Finishes.{Finishes}
+use Rattle.vaultc_runs.specs.Shown.{IsReplyToCaller}
 use Rattle.vaultc_core.proofs.commands.run_accepted.Goals as goal
 
 pub returns-in-Main : goal.returns-in-Main

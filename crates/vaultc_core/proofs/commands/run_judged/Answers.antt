@@ -2,12 +2,12 @@ use Rattle.vlt_core.specs.View.{program_of}
 use Rattle.vlt_core.specs.Core.{Program}
 use Rattle.vlt_numbers.specs.Given.Given.{given_by}
 use Rattle.vlt_syntax.specs.View.{tree_of}
-use Rattle.vaultc_core.specs.Lines.{Reply}
-use Rattle.vaultc_core.specs.Replies.{IsReplyToRunText}
-use Rattle.vaultc_core.specs.Shown.{IsReplyOf, IsReplyToCaller}
-use Rattle.vaultc_core.proofs.Finished.{finishes_as, reply_is}
-use Rattle.vaultc_core.proofs.Runnable.{RunLaws, HostLaws, runnable, runnable_for_hosts}
-use Rattle.vaultc_core.proofs.Said.{refused_run, accepted_run, accepted_program}
+use Rattle.vaultc_runs.specs.Lines.{Reply}
+use Rattle.vaultc_replies.specs.Replies.{IsReplyToRunText}
+use Rattle.vaultc_runs.specs.Shown.{IsReplyOf, IsReplyToCaller}
+use Rattle.vaultc_runs.proofs.Finished.{finishes_as, reply_is}
+use Rattle.vaultc_replies.proofs.Runnable.{RunLaws, HostLaws, runnable, runnable_for_hosts}
+use Rattle.vaultc_replies.proofs.Said.{refused_run, accepted_run, accepted_program}
 use Rattle.vaultc_core.proofs.commands.run_judged.Goals as goal
 
 pub run_accepted-requires-clause-runnable : goal.run_accepted-requires-clause-runnable

@@ -1,12 +1,12 @@
 use Rattle.std.proofs.Common.{subst}
 use Rattle.vlt_core.specs.Core.{Program}
 use Rattle.vlt_numbers.specs.Given.Given.{given_by}
-use Rattle.vaultc_core.specs.Finishes.{Finishes}
-use Rattle.vaultc_core.specs.Lines.{Reply}
-use Rattle.vaultc_core.specs.Replies.{IsReplyToRunText}
-use Rattle.vaultc_core.specs.Shown.{IsReplyOf, IsReplyToCaller, refusal_of}
-use Rattle.vaultc_core.proofs.Finished.{finishes_as, reply_is}
-use Rattle.vaultc_core.proofs.Said.{refused_run_text}
+use Rattle.vaultc_runs.specs.Finishes.{Finishes}
+use Rattle.vaultc_runs.specs.Lines.{Reply}
+use Rattle.vaultc_replies.specs.Replies.{IsReplyToRunText}
+use Rattle.vaultc_runs.specs.Shown.{IsReplyOf, IsReplyToCaller, refusal_of}
+use Rattle.vaultc_runs.proofs.Finished.{finishes_as, reply_is}
+use Rattle.vaultc_replies.proofs.Said.{refused_run_text}
 use Rattle.vaultc_core.proofs.commands.run_text.Goals as goal
 
 pub judge_text-requires-clause-text : goal.judge_text-requires-clause-text

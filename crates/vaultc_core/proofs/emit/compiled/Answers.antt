@@ -1,7 +1,7 @@
 use Rattle.vlt_syntax.specs.View.{tree_of}
 use Rattle.vlt_core.specs.View.{program_of}
-use Rattle.vaultc_core.proofs.Compilable.{compilable}
-use Rattle.vaultc_core.proofs.Said.{accepted_program, checked_emit, accepted_emit}
+use Rattle.vaultc_replies.proofs.Compilable.{compilable}
+use Rattle.vaultc_replies.proofs.Said.{accepted_program, checked_emit, accepted_emit}
 use Rattle.vaultc_core.proofs.emit.compiled.Goals as goal
 
 pub emitted-requires : goal.emitted-requires

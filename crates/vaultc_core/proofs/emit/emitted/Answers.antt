@@ -1,7 +1,7 @@
 use Rattle.std.proofs.Common.{sym, subst}
 use Rattle.vlt_core.specs.View.{program_of}
 use Rattle.cert_emit.specs.Certificates.{IsLeastText}
-use Rattle.vaultc_core.proofs.Compiles.{with_certificate}
+use Rattle.vaultc_replies.proofs.CFiles.{with_certificate}
 use Rattle.vaultc_core.proofs.emit.emitted.Goals as goal
 
 pub returns : goal.returns

@@ -4,7 +4,7 @@ use Rattle.vlt_core.specs.View.{program_of}
 use Rattle.vlt_rows.specs.Unfit.{UnfitBy}
 use Rattle.vlt_check.specs.Checks.{fault_of}
 use Rattle.vlt_witness.specs.Unfit.{IsUnfitAt}
-use Rattle.vaultc_core.proofs.Explained.{searched}
+use Rattle.vaultc_core.proofs.Searched.{searched}
 use Rattle.vaultc_core.proofs.explain.paths_of.Goals as goal
 
 pub unreachable-requires-in-Err-Unfit : goal.unreachable-requires-in-Err-Unfit

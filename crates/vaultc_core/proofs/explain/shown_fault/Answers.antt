@@ -6,7 +6,7 @@ use Rattle.vlt_core.specs.View.{program_of, func_of, tok_of}
 use Rattle.vlt_core.specs.FaultView.{choices_of}
 use Rattle.vlt_check.specs.Checks.{fault_of}
 use Rattle.vlt_reports.specs.Reports.{fault_line, instance_text, paths_text}
-use Rattle.vaultc_core.proofs.Explained.{kind_same, func_there, fault_explained}
+use Rattle.vaultc_replies.proofs.Explained.{kind_same, func_there, fault_explained}
 use Rattle.vaultc_core.proofs.explain.shown_fault.Goals as goal
 
 pub returns : goal.returns

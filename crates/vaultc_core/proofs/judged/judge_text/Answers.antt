@@ -1,6 +1,6 @@
 use Rattle.std.proofs.Common.{ap, ◌∙◌, Err}
 use Rattle.vlt_syntax.specs.View.{tree_of}
-use Rattle.vaultc_core.proofs.OfTexts.{program_of_text}
+use Rattle.vaultc_replies.proofs.OfTexts.{program_of_text}
 use Rattle.vaultc_core.proofs.judged.judge_text.Goals as goal
 
 pub unreachable-requires : goal.unreachable-requires

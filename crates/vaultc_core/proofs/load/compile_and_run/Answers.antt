@@ -1,10 +1,10 @@
 use Rattle.std.proofs.Common.{◌≡◌, length, ap, ◌∙◌, arith}
 use Rattle.vlt_core.specs.View.{program_of}
-use Rattle.vaultc_core.specs.Lines.{reply}
-use Rattle.vaultc_core.specs.Loads.{IsReplyAfterEmit, IsLoaded}
-use Rattle.vaultc_core.specs.Shown.{shown_reply}
-use Rattle.vaultc_core.proofs.Finished.{finishes_as}
-use Rattle.vaultc_core.proofs.Loads.{unwritten, written}
+use Rattle.vaultc_runs.specs.Lines.{reply}
+use Rattle.vaultc_replies.specs.Loads.{IsReplyAfterEmit, IsLoaded}
+use Rattle.vaultc_runs.specs.Shown.{shown_reply}
+use Rattle.vaultc_runs.proofs.Finished.{finishes_as}
+use Rattle.vaultc_replies.proofs.Loads.{unwritten, written}
 use Rattle.vaultc_core.proofs.load.compile_and_run.Goals as goal
 
 pub returns-then-file-ne-DONE : goal.returns-then-file-ne-DONE

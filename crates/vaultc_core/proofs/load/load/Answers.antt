@@ -1,7 +1,7 @@
 use Rattle.std.proofs.Common.{subst}
 use Rattle.vlt_load.specs.Generated.{generated_text}
-use Rattle.vaultc_core.specs.Finishes.{Finishes}
-use Rattle.vaultc_core.specs.Replies.{IsReplyToMade}
+use Rattle.vaultc_runs.specs.Finishes.{Finishes}
+use Rattle.vaultc_replies.specs.Replies.{IsReplyToMade}
 use Rattle.vaultc_core.proofs.load.load.Goals as goal
 
 pub returns-in-Ok : goal.returns-in-Ok

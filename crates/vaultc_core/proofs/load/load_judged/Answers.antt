@@ -1,13 +1,13 @@
 use Rattle.vlt_core.specs.View.{program_of}
 use Rattle.vlt_syntax.specs.View.{tree_of}
-use Rattle.vaultc_core.specs.Loads.{IsLoaded}
-use Rattle.vaultc_core.specs.Replies.{IsReplyToMade}
-use Rattle.vaultc_core.specs.Shown.{IsReplyOf}
-use Rattle.vaultc_core.proofs.Compilable.{compilable}
-use Rattle.vaultc_core.proofs.Finished.{finishes_as, reply_is}
-use Rattle.vaultc_core.proofs.Loads.{refused_load, accepted_load}
-use Rattle.vaultc_core.proofs.Runnable.{RunLaws, runnable}
-use Rattle.vaultc_core.proofs.Said.{accepted_program}
+use Rattle.vaultc_replies.specs.Loads.{IsLoaded}
+use Rattle.vaultc_replies.specs.Replies.{IsReplyToMade}
+use Rattle.vaultc_runs.specs.Shown.{IsReplyOf}
+use Rattle.vaultc_replies.proofs.Compilable.{compilable}
+use Rattle.vaultc_runs.proofs.Finished.{finishes_as, reply_is}
+use Rattle.vaultc_replies.proofs.Loads.{refused_load, accepted_load}
+use Rattle.vaultc_replies.proofs.Runnable.{RunLaws, runnable}
+use Rattle.vaultc_replies.proofs.Said.{accepted_program}
 use Rattle.vaultc_core.proofs.load.load_judged.Goals as goal
 
 pub compile_and_run-requires-clause-compilable : goal.compile_and_run-requires-clause-compilable

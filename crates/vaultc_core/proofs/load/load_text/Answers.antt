@@ -1,10 +1,10 @@
 use Rattle.std.proofs.Common.{subst}
-use Rattle.vaultc_core.specs.Finishes.{Finishes}
-use Rattle.vaultc_core.specs.Loads.{IsReplyToLoad}
-use Rattle.vaultc_core.specs.Replies.{IsReplyToMade}
-use Rattle.vaultc_core.specs.Shown.{IsReplyOf, refusal_of}
-use Rattle.vaultc_core.proofs.Finished.{finishes_as, reply_is}
-use Rattle.vaultc_core.proofs.Said.{refused_text}
+use Rattle.vaultc_runs.specs.Finishes.{Finishes}
+use Rattle.vaultc_replies.specs.Loads.{IsReplyToLoad}
+use Rattle.vaultc_replies.specs.Replies.{IsReplyToMade}
+use Rattle.vaultc_runs.specs.Shown.{IsReplyOf, refusal_of}
+use Rattle.vaultc_runs.proofs.Finished.{finishes_as, reply_is}
+use Rattle.vaultc_replies.proofs.Said.{refused_text}
 use Rattle.vaultc_core.proofs.load.load_text.Goals as goal
 
 pub judge_text-requires-clause-text : goal.judge_text-requires-clause-text

@@ -1,0 +1,13 @@
+pub mod Programs
+pub mod Variables
+pub mod Verdicts
+pub mod Emitted
+pub mod Verifying
+pub mod Loads
+pub mod Modules
+pub mod Replies
+pub mod Promised
+pub mod Hosted
+pub mod Judged
+pub mod ModuleSteps
+pub mod Compilable

@@ -1,0 +1,8 @@
+pub mod Finished
+pub mod Ended
+pub mod Own
+pub mod RunEnded
+pub mod HostEnded
+pub mod CEnded
+pub mod CReplies
+pub mod Lexed

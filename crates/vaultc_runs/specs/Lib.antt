@@ -1,0 +1,10 @@
+pub mod Lines
+pub mod OverFiles
+pub mod Texts
+pub mod Runs
+pub mod CRuns
+pub mod HostRuns
+pub mod Finishes
+pub mod Callable
+pub mod Loading
+pub mod Shown

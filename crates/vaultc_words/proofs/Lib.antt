@@ -1,0 +1,5 @@
+pub mod Digits
+pub mod Numbers
+pub mod Settings
+pub mod Reading
+pub mod FilesHad

@@ -1,0 +1,4 @@
+pub mod Commands
+pub mod Sources
+pub mod View
+pub mod FilesSeen
