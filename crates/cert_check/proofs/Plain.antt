@@ -8,7 +8,7 @@ use Rattle.vlt_core.specs.declared.held.Status.TheVariants as status
 use Rattle.vlt_core.specs.declared.notes.TokMap.{TokMap}
 use Rattle.vlt_keyset.specs.Pairs.{Pair}
 use Rattle.vlt_keyset.specs.Pairs as pairs
-use Rattle.cert_read_rows.specs.Maps.{map_of, maps_of, pair_of, pairs_of}
+use Rattle.cert_read_parts.specs.Maps.{map_of, maps_of, pair_of, pairs_of}
 use Rattle.cert_read_bodies.specs.Notes.{note_of}
 use Rattle.cert_read_bodies.specs.declared.notes.MapsNote.{MapsNote}
 use Rattle.cert_read_bodies.specs.declared.notes.MapsNote.TheVariants as note

@@ -13,7 +13,7 @@ use Rattle.vlt_keyset.specs.declared.faults.TokenFault.{TokenFault}
 use Rattle.vlt_keyset.specs.declared.faults.Apart.{Apart}
 use Rattle.cert_rows.specs.Rows.{Maps}
 use Rattle.cert_format.specs.Notes as format
-use Rattle.cert_read_rows.specs.Maps.{map_of, maps_of, pairs_of as listed}
+use Rattle.cert_read_parts.specs.Maps.{map_of, maps_of, pairs_of as listed}
 use Rattle.cert_read_bodies.specs.Notes.{note_of}
 use Rattle.cert_read_bodies.specs.declared.notes.MapsNote.{MapsNote}
 use Rattle.cert_read_bodies.specs.declared.notes.MapsNote.TheVariants as note

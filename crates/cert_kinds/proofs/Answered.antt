@@ -4,9 +4,9 @@ use Rattle.std.specs.Option.{option_map}
 use Rattle.vlt_core.specs.Core.{Program}
 use Rattle.vlt_core.specs.Kinded.{rows_broken, breaks, IsKinded}
 use Rattle.cert_kinds.specs.Outcomes.{HasFirstBroken}
-use Rattle.cert_kinds.specs.declared.tallies.Broken.{Broken}
-use Rattle.cert_kinds.specs.declared.tallies.Tally.{Tally as CodeTally}
-use Rattle.cert_kinds.specs.Tallies.{Place, Tally, clean, tallied, place_of, tally_of}
+use Rattle.cert_kinds_tallies.specs.declared.tallies.Broken.{Broken}
+use Rattle.cert_kinds_tallies.specs.declared.tallies.Tally.{Tally as CodeTally}
+use Rattle.cert_kinds_tallies.specs.Tallies.{Place, Tally, clean, tallied, place_of, tally_of}
 use Rattle.cert_kinds.proofs.Tallying.{counted, first_counted}
 
 found_is : (p : Program) (t : Tally) → t ≡ tallied (clean 0) (rows_broken p) → t.found ≡ option_map counted (breaks p)

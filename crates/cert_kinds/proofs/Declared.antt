@@ -8,7 +8,7 @@ use Rattle.vlt_core.specs.Kinded.{has_main, parts_broken, rows_broken}
 use Rattle.vlt_core.specs.declared.rules.TheConstants.{NO_MAIN}
 use Rattle.cert_kinds_types.specs.Least.{least}
 use Rattle.cert_kinds_types.specs.TypeRows.{own_row, case_rows}
-use Rattle.cert_kinds.specs.Tallies.{Tally, clean, with_row, tallied}
+use Rattle.cert_kinds_tallies.specs.Tallies.{Tally, clean, with_row, tallied}
 use Rattle.cert_kinds.specs.Whole.{types_rows, functions_rows}
 use Rattle.cert_kinds.proofs.Tallying.{both}
 

@@ -6,8 +6,7 @@ use Rattle.vlt_core.specs.KindedHeads.{Rules}
 use Rattle.vlt_core.specs.Kinded.{first_broken}
 use Rattle.cert_kinds_types.specs.Least.{least, lesser}
 use Rattle.cert_kinds_types.proofs.Smallest.{joined}
-use Rattle.cert_kinds.specs.Outcomes.{last_row}
-use Rattle.cert_kinds.specs.Tallies.{row_after, Place, Tally, first_of, broken_at, clean, with_row, with_rest, tallied}
+use Rattle.cert_kinds_tallies.specs.Tallies.{last_row, row_after, Place, Tally, first_of, broken_at, clean, with_row, with_rest, tallied}
 
 pub both : (t : Tally) (xs ys : List Rules) → tallied t (xs ++ ys) ≡ tallied (tallied t xs) ys
 both t [] ys = refl

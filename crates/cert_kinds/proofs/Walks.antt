@@ -15,8 +15,8 @@ use Rattle.cert_kinds_types.specs.Least.{least, lesser}
 use Rattle.cert_kinds_types.proofs.Smallest.{joined, one_more}
 use Rattle.cert_kinds_blocks.specs.declared.outer.Outer.{Outer}
 use Rattle.cert_kinds_blocks.specs.Covered.{Remembers, left_with}
-use Rattle.cert_kinds.specs.declared.tallies.Walked.{Walked}
-use Rattle.cert_kinds.specs.Tallies.{Tally, tallied, tally_of, IsWalked}
+use Rattle.cert_kinds_tallies.specs.declared.tallies.Walked.{Walked}
+use Rattle.cert_kinds_tallies.specs.Tallies.{Tally, tallied, tally_of, IsWalked}
 use Rattle.cert_kinds.proofs.Tallying.{both}
 
 -- ---- the next of a list

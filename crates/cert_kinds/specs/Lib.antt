@@ -1,4 +1,3 @@
 pub mod Outcomes
-pub mod Tallies
 pub mod Starts
 pub mod Whole

@@ -2,12 +2,9 @@
 use Rattle.std.specs.Prelude.{◌≡◌, ℕ, min, Some, Result, Ok, Err}
 use Rattle.vlt_core.specs.Core.{Program}
 use Rattle.vlt_core.specs.Kinded.{IsKinded, breaks}
+use Rattle.cert_kinds_tallies.specs.Tallies.{last_row}
 use Rattle.cert_kinds.specs.declared.whole.KindedError.{KindedError}
 use Rattle.cert_kinds.specs.declared.whole.KindedError.TheVariants.{Broken, Memory}
-
--- The greatest number of a row that is counted. A program with more rows than that fits no machine.
-abbrev pub last_row : ℕ
-last_row = 18446744073709551615
 
 -- This is the least rule that the first broken row breaks; the row's number is this one, or greater
 -- where this is the greatest that is counted.

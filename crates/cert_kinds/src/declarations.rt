@@ -4,10 +4,10 @@ ghost use Rattle.std.specs.Prelude.{◌≡◌, ◌≤◌, ◌^◌, map, length};
 ghost use Rattle.vlt_core.specs.View.{program_of, set_of, header_of, case_of, type_of};
 ghost use Rattle.vlt_core.specs.KindedHeads as s;
 ghost use Rattle.cert_kinds_types.specs.TypeRows.{case_rows};
-ghost use Rattle.cert_kinds.specs.Tallies.{tally_of, tallied};
+ghost use Rattle.cert_kinds_tallies.specs.Tallies.{tally_of, tallied};
 ghost use Rattle.cert_kinds.specs.Whole as z;
 
-use crate::tallies::Tally;
+use cert_kinds_tallies::Tally;
 use cert_kinds_types::{case_broken, set_broken, type_broken};
 use vlt_base::TypeId;
 use vlt_core::{CaseDecl, Program, SetDecl, TypeDecl};

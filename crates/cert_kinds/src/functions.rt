@@ -7,14 +7,14 @@ ghost use Rattle.vlt_core.specs.KindedBodies as s;
 ghost use Rattle.vlt_kinds_queries.specs.Marks.{AreMarks};
 ghost use Rattle.cert_kinds_types.specs.Least.{least};
 ghost use Rattle.cert_kinds_blocks.specs.Scoped.{HasMarks, program_in, func_in};
-ghost use Rattle.cert_kinds.specs.Tallies.{tally_of, tallied};
+ghost use Rattle.cert_kinds_tallies.specs.Tallies.{tally_of, tallied};
 ghost use Rattle.cert_kinds.specs.Whole as z;
 
 use crate::starts::first_ids;
-use crate::tallies::Tally;
 use crate::walking::walk_stmts;
 use cert_kinds_blocks::{Around, Scope, list_ends};
 use cert_kinds_heads::head_broken;
+use cert_kinds_tallies::Tally;
 use cert_kinds_types::{lesser, unless};
 use std::alloc::{AllocError, Global};
 use vlt_core::{Func, Program, rules};

@@ -6,7 +6,6 @@
 mod declarations;
 mod functions;
 mod starts;
-mod tallies;
 mod walking;
 mod whole;
 

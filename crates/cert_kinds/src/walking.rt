@@ -10,14 +10,14 @@ ghost use Rattle.cert_kinds_types.specs.Least.{least};
 ghost use Rattle.cert_kinds_exprs.specs.Scopes.{ids_of};
 ghost use Rattle.cert_kinds_blocks.specs.Scoped.{HasMarks, program_in, func_in};
 ghost use Rattle.cert_kinds_blocks.specs.Flat.{around_of};
-ghost use Rattle.cert_kinds.specs.Tallies.{tally_of, tallied, IsWalked};
+ghost use Rattle.cert_kinds_tallies.specs.Tallies.{tally_of, tallied, IsWalked};
 
-use crate::tallies::{Tally, Walked};
 use cert_kinds_blocks::{
     Around, Scope, arm_broken, arm_toks, begin_block, bind_focus, flat_broken, focus_broken, leave,
     remember, stmt_ends, switch_broken, tokens_broken,
 };
 use cert_kinds_exprs::{Ids, Seen, value_broken};
+use cert_kinds_tallies::{Tally, Walked};
 use cert_kinds_types::{lesser, unless};
 use std::alloc::{AllocError, Global};
 use vlt_base::VarId;

@@ -4,13 +4,13 @@ ghost use Rattle.std.specs.Prelude.{◌≡◌, ◌≤◌, ◌^◌, length, IfOk}
 ghost use Rattle.vlt_core.specs.View.{program_of};
 ghost use Rattle.vlt_core.specs.Kinded as s;
 ghost use Rattle.vlt_kinds_queries.specs.Marks.{AreMarks};
-ghost use Rattle.cert_kinds.specs.Tallies.{tally_of, tallied, clean};
+ghost use Rattle.cert_kinds_tallies.specs.Tallies.{tally_of, tallied, clean};
 ghost use Rattle.cert_kinds.specs.Outcomes.{IsAnswered};
 ghost use Rattle.cert_kinds.specs.declared.whole.KindedError.TheVariants.{Memory};
 
 use crate::declarations::{tally_sets, tally_types};
 use crate::functions::tally_functions;
-use crate::tallies::Tally;
+use cert_kinds_tallies::Tally;
 use cert_kinds_types::{marks, unless};
 use std::alloc::{AllocError, Global};
 use thiserror::Error;

@@ -12,11 +12,12 @@ use Rattle.vlt_base.specs.declared.ids.VarId.{VarId}
 use Rattle.vlt_core.specs.declared.held.Tok.{Tok}
 use Rattle.vlt_core.specs.View.{vars_of}
 use Rattle.vlt_core.specs.HeldView.{toks_of}
-use Rattle.cert_read_bodies.specs.Tree.{ArmView, arm_of, arms_of, ending_of}
+use Rattle.cert_read_parts.specs.Endings.{ending_of}
+use Rattle.cert_read_bodies.specs.Tree.{ArmView, arm_of, arms_of}
 use Rattle.cert_read_bodies.specs.Reads.{rest_at, IsReadSecond, IsReadArms}
 use Rattle.cert_read_bodies.proofs.Listing.{Arming}
 use Rattle.cert_read_bodies.specs.declared.tree.Arm.{Arm}
-use Rattle.cert_read_bodies.specs.declared.tree.Ending.{Ending as CodeEnding}
+use Rattle.cert_read_parts.specs.declared.endings.Ending.{Ending as CodeEnding}
 use Rattle.cert_read_bodies.specs.declared.read.ReadBlock.{ReadBlock}
 use Rattle.cert_read_bodies.specs.declared.read.ReadArms.{ReadArms}
 use Rattle.cert_read_bodies.proofs.Rowed.{split}

@@ -6,11 +6,12 @@ use Rattle.cert_format.specs.Bodies.{size_list, size_arms}
 use Rattle.cert_format.specs.Endings.{never, both, list_ending, arms_ending, wrong_list, wrong_arms, or_else}
 use Rattle.cert_read_rows.specs.Heads.{arm_of as head_of_arm}
 use Rattle.cert_read_rows.specs.declared.heads.ArmHead.{ArmHead}
-use Rattle.cert_read_bodies.specs.Tree.{drafts_of, arms_of, ending_of}
+use Rattle.cert_read_parts.specs.Endings.{ending_of}
+use Rattle.cert_read_bodies.specs.Tree.{drafts_of, arms_of}
 use Rattle.cert_read_bodies.specs.Reads.{rest_at}
 use Rattle.cert_read_bodies.specs.declared.tree.Draft.{Draft}
 use Rattle.cert_read_bodies.specs.declared.tree.Arm.{Arm}
-use Rattle.cert_read_bodies.specs.declared.tree.Ending.{Ending}
+use Rattle.cert_read_parts.specs.declared.endings.Ending.{Ending}
 
 -- `turn` of `count` are read, each of them whole
 pub record Listing (n : Option ℕ) (from deep count : ℕ) (rows : List Value) (turn : ℕ)

@@ -14,7 +14,7 @@ use Rattle.cert_format.specs.Endings.{both, row_ending, agrees, ending, block_en
 use Rattle.cert_read_rows.specs.Statements.{stmt_of_data, plain_of}
 use Rattle.cert_read_rows.specs.declared.plain.PlainRow.{PlainRow}
 use Rattle.cert_read_rows.specs.declared.plain.PlainRow.TheVariants as P
-use Rattle.cert_read_bodies.specs.Tree.{ending_of}
+use Rattle.cert_read_parts.specs.Endings.{ending_of}
 use Rattle.cert_read_bodies.specs.Reads.{rest_at, first_at, IsReadDraft, IsReadBlock, IsReadSecond, IsReadArms}
 use Rattle.cert_read_bodies.specs.declared.read.ReadDraft.{ReadDraft}
 use Rattle.cert_read_bodies.specs.declared.read.ReadBlock.{ReadBlock}

@@ -7,12 +7,13 @@ use Rattle.cert_format.specs.Drafts as s
 use Rattle.cert_format.specs.Drafts.{draft_rows, list_rows, is_whole_list, IsStuck, IsTaken, AreTaken}
 use Rattle.cert_format.specs.Bodies.{size, size_list}
 use Rattle.cert_format.specs.Endings.{never, unsure, list_ending, wrong_draft, wrong_list, or_else}
-use Rattle.cert_read_bodies.specs.Tree.{draft_of, drafts_of, ending_of}
+use Rattle.cert_read_parts.specs.Endings.{ending_of}
+use Rattle.cert_read_bodies.specs.Tree.{draft_of, drafts_of}
 use Rattle.cert_read_bodies.specs.Reads.{rest_at, IsReadDraft, IsReadBlock}
 use Rattle.cert_read_bodies.proofs.Listing.{Listing}
 use Rattle.cert_read_bodies.specs.declared.tree.Draft.{Draft}
-use Rattle.cert_read_bodies.specs.declared.tree.Ending.{Ending}
-use Rattle.cert_read_bodies.specs.declared.tree.Ending.TheVariants.{Never}
+use Rattle.cert_read_parts.specs.declared.endings.Ending.{Ending}
+use Rattle.cert_read_parts.specs.declared.endings.Ending.TheVariants.{Never}
 use Rattle.cert_read_bodies.specs.declared.read.ReadDraft.{ReadDraft}
 use Rattle.cert_read_bodies.specs.declared.read.ReadBlock.{ReadBlock}
 use Rattle.cert_read_bodies.proofs.Rowed.{split}

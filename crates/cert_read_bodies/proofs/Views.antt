@@ -6,7 +6,7 @@ use Rattle.vlt_core.specs.declared.notes.TokMap.{TokMap}
 use Rattle.vlt_core.specs.View.{expr_of, vars_of}
 use Rattle.vlt_core.specs.HeldView.{toks_of}
 use Rattle.cert_format.specs.Drafts as s
-use Rattle.cert_read_rows.specs.Maps.{maps_of}
+use Rattle.cert_read_parts.specs.Maps.{maps_of}
 use Rattle.cert_read_rows.specs.Statements.{plain_of}
 use Rattle.cert_read_rows.specs.declared.plain.PlainRow.{PlainRow}
 use Rattle.cert_read_bodies.specs.declared.tree.Draft.TheVariants as V

@@ -1,7 +1,7 @@
 -- Notes of the code as the plain ones that they stand for.
 use Rattle.std.specs.Prelude.{◌≡◌, ℕ, ◌+◌, List, ◌++◌, map}
 use Rattle.cert_format.specs.Notes.{Note, at_loop, at_join}
-use Rattle.cert_read_rows.specs.Maps.{maps_of}
+use Rattle.cert_read_parts.specs.Maps.{maps_of}
 use Rattle.cert_read_bodies.specs.declared.notes.MapsNote.{MapsNote}
 use Rattle.cert_read_bodies.specs.declared.notes.MapsNote.TheVariants as note
 use Rattle.cert_read_bodies.specs.declared.notes.Notes.{Notes}

@@ -7,7 +7,8 @@ use Rattle.cert_format.specs.Drafts.{Draft, plain, Block, Arms, Rest, head, arm_
 use Rattle.cert_format.specs.Bodies.{size, size_block, size_arms}
 use Rattle.cert_format.specs.Endings.{ending, row_ending, block_ending, arms_ending, wrong_draft, wrong_block, wrong_arms}
 use Rattle.cert_read_rows.specs.Statements.{stmt_of_data}
-use Rattle.cert_read_bodies.specs.Tree.{draft_of, block_of, arms_of, ending_of}
+use Rattle.cert_read_parts.specs.Endings.{ending_of}
+use Rattle.cert_read_bodies.specs.Tree.{draft_of, block_of, arms_of}
 use Rattle.cert_read_bodies.specs.declared.read.ReadDraft.{ReadDraft}
 use Rattle.cert_read_bodies.specs.declared.read.ReadBlock.{ReadBlock}
 use Rattle.cert_read_bodies.specs.declared.read.ReadArms.{ReadArms}

@@ -3,16 +3,13 @@ use Rattle.std.specs.Prelude.{ℕ, List, [], ◌∷◌, map, option_map}
 use Rattle.vlt_core.specs.View.{expr_of, vars_of}
 use Rattle.vlt_core.specs.HeldView.{toks_of}
 use Rattle.cert_format.specs.Drafts as s
-use Rattle.cert_format.specs.Endings as ending
-use Rattle.cert_read_rows.specs.Maps.{maps_of}
+use Rattle.cert_read_parts.specs.Maps.{maps_of}
 use Rattle.cert_read_rows.specs.Statements.{plain_of}
 use Rattle.cert_read_bodies.specs.declared.tree.Draft.{Draft}
 use Rattle.cert_read_bodies.specs.declared.tree.Draft.TheOpen.{Draft-F, Arm-F, Block-F}
 use Rattle.cert_read_bodies.specs.declared.tree.Draft.TheFolds.{fold-Draft, fold-Arm, fold-Block}
 use Rattle.cert_read_bodies.specs.declared.tree.Arm.{Arm}
 use Rattle.cert_read_bodies.specs.declared.tree.Block.{Block}
-use Rattle.cert_read_bodies.specs.declared.tree.Ending.{Ending}
-use Rattle.cert_read_bodies.specs.declared.tree.Ending.TheVariants.{Sure, Never, Unsure}
 
 abbrev pub ArmView : Type 0
 ArmView = ℕ × List ℕ × s.Block
@@ -53,8 +50,3 @@ drafts_of xs = drafts_made (map draft_of xs)
 
 abbrev pub arms_of : List Arm → s.Arms
 arms_of xs = arms_made (map arm_of xs)
-
-abbrev pub ending_of : Ending → ending.Ending
-ending_of Sure = ending.sure
-ending_of Never = ending.never
-ending_of Unsure = ending.unsure

@@ -14,7 +14,7 @@ mod tree;
 pub use forms::stmts;
 pub use notes::{MapsNote, Notes};
 pub use read::{ReadBlock, read_block};
-pub use tree::{Arm, Block, Draft, Ending};
+pub use tree::{Arm, Block, Draft};
 
 /// A value is read as a statement's row where it is read as a row and that is a statement's.
 pub fn statements_are_rows()

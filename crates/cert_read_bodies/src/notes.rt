@@ -2,7 +2,7 @@
 
 ghost use Rattle.std.specs.Prelude.{◌≡◌, ◌≤◌, ◌<◌, ◌+◌, ◌++◌, option_map, OnOk, [], ◌∷◌};
 ghost use Rattle.cert_format.specs.Notes.{at_loop, join_note};
-ghost use Rattle.cert_read_rows.specs.Maps.{maps_of};
+ghost use Rattle.cert_read_parts.specs.Maps.{maps_of};
 ghost use Rattle.cert_read_bodies.specs.Notes.{Adds};
 
 use std::alloc::AllocError;

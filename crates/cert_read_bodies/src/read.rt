@@ -1,23 +1,24 @@
 //! Statements of rows, as far as the rows go.
 
-ghost use Rattle.std.specs.Prelude.{◌≡◌, ◌≤◌, ◌<◌, ◌==◌, length, map, option_map, IfOk, if◌then◌else◌, Some, None, false};
+ghost use Rattle.std.specs.Prelude.{◌≡◌, ◌≤◌, ◌<◌, ◌==◌, length, map, option_map, IfOk, None, false};
 ghost use Rattle.vlt_core.specs.HeldView.{toks_of};
 ghost use Rattle.cert_format.specs.Drafts as s;
-ghost use Rattle.cert_format.specs.Endings.{unsure, both, agrees, or_else, row_ending};
+ghost use Rattle.cert_format.specs.Endings.{row_ending};
 ghost use Rattle.cert_read_rows.specs.Heads.{head_of, arm_of};
-ghost use Rattle.cert_read_rows.specs.Maps.{maps_of};
 ghost use Rattle.cert_read_rows.specs.Statements.{plain_of, block_of as block_row_of, stmt_of};
-ghost use Rattle.cert_read_bodies.specs.Tree.{block_of, drafts_of, ending_of};
+ghost use Rattle.cert_read_parts.specs.Endings.{ending_of};
+ghost use Rattle.cert_read_bodies.specs.Tree.{block_of, drafts_of};
 ghost use Rattle.cert_read_bodies.specs.Reads.{ReadsDraft, ReadsBlock, ReadsSecond, ReadsArms, HasArmsDepth, IsPlainDraft, Stands, rest_at, first_at};
 
-use crate::tree::{Arm, Block, Draft, Ending};
+use crate::tree::{Arm, Block, Draft};
+use cert_read_parts::{Ending, at_odds, both, cut_ending, or_else};
 use cert_read_rows::{
     ArmHead, BlockRow, FocusRow, Head, IfRow, PlainRow, StmtRow, SwitchRow, WhileRow, stmt_row,
 };
 use serde_json::Value;
 use std::alloc::{AllocError, Global};
 use vlt_base::{Boxed, Items};
-use vlt_core::{Tok, TokMap};
+use vlt_core::Tok;
 
 /// A statement, the row after it, whether all its blocks are there, whether it ends, and the first row that has 0 or maps
 /// against that.
@@ -48,57 +49,6 @@ pub struct ReadArms {
     pub whole: bool,
     pub ends: Ending,
     pub wrong: Option<usize>,
-}
-
-fn both(a: Ending, b: Ending) -> Ending
-    ensures { ending_of result ≡ both (ending_of a) (ending_of b) }
-{
-    match a {
-        Ending::Never => Ending::Never,
-        Ending::Sure => b,
-        Ending::Unsure => match b {
-            Ending::Never => Ending::Never,
-            _ => Ending::Unsure,
-        },
-    }
-}
-
-fn agrees(ends: Ending, maps: &Option<Items<TokMap>>) -> bool
-    ensures { result ≡ agrees (ending_of ends) (option_map maps_of maps.now) }
-{
-    match ends {
-        Ending::Sure => maps.is_none(),
-        Ending::Never => maps.is_some(),
-        Ending::Unsure => true,
-    }
-}
-
-fn or_else(a: Option<usize>, b: Option<usize>) -> Option<usize>
-    ensures { result ≡ or_else a b }
-{
-    match a {
-        Some(row) => Some(row),
-        None => b,
-    }
-}
-
-fn at_odds(
-    ends: Ending,
-    maps: &Option<Items<TokMap>>,
-    at: usize,
-    inside: Option<usize>,
-) -> Option<usize>
-    ensures { result
-        ≡ if agrees (ending_of ends) (option_map maps_of maps.now) then inside else Some at }
-{
-    if agrees(ends, maps) { inside } else { Some(at) }
-}
-
-/// Whether a block ends after a statement that breaks off: as that one where it is the last.
-fn cut_ending(is_last: bool, ends: Ending) -> Ending
-    ensures { ending_of result ≡ if is_last then ending_of ends else unsure }
-{
-    if is_last { ends } else { Ending::Unsure }
 }
 
 /// The depth of the blocks of arms; none where it is beyond the limit.

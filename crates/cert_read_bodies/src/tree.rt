@@ -35,11 +35,3 @@ pub struct Block {
     pub bound: Items<Tok>,
     pub stmts: Items<Draft>,
 }
-
-/// Whether a statement ends, as far as its rows tell.
-#[derive(Clone, Copy)]
-pub enum Ending {
-    Sure,
-    Never,
-    Unsure,
-}

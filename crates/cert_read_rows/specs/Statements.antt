@@ -8,7 +8,7 @@ use Rattle.cert_rows.specs.Parts.{array_in}
 use Rattle.cert_rows.specs.Values.{by_tag}
 use Rattle.cert_rows.specs.Rows.{Row, simple, call, choose, loop, switch, focus, scope, return, jump, set_stmt, input_stmt, print_stmt, put_stmt, new_stmt, become_stmt, release_stmt, drop_stmt, own_stmt, unpack_stmt, build_stmt, call_stmt, swap_stmt, open_stmt, adopt_stmt, return_stmt, jump_stmt, if_stmt, while_stmt, switch_stmt, focus_stmt, scope_stmt}
 use Rattle.cert_read_rows.specs.Heads.{head_of, arm_of}
-use Rattle.cert_read_rows.specs.Maps.{maps_of}
+use Rattle.cert_read_parts.specs.Maps.{maps_of}
 use Rattle.cert_read_rows.specs.declared.plain.PlainRow.{PlainRow}
 use Rattle.cert_read_rows.specs.declared.plain.PlainRow.TheVariants as plain
 use Rattle.cert_read_rows.specs.declared.blocks.BlockRow.{BlockRow}

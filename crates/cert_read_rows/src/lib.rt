@@ -1,6 +1,6 @@
 //! A value of JSON in; the row of a statement of a certificate out, or none.
 //! Read `specs/Statements.antt` first, then of `cert_rows` `specs/Rows.antt`.
-//! Used by: `cert_read_bodies`, which reads bodies, and `cert_check`, which names its maps.
+//! Used by: `cert_read_bodies`, which reads bodies.
 #![tactic(auto)]
 
 mod blocks;

@@ -7,7 +7,7 @@ ghost use Rattle.cert_rows.specs.Parts.{each_in, zero_or};
 ghost use Rattle.cert_rows.specs.Values as s;
 ghost use Rattle.vlt_core.specs.View.{tok_of};
 ghost use Rattle.cert_rows.specs.Values.{number_of_tok, ascends, map_part, maps_part, token_status, is_status, status_of as kind_status};
-ghost use Rattle.cert_read_rows.specs.Maps.{pair_of, pairs_of, map_of, maps_of};
+ghost use Rattle.cert_read_parts.specs.Maps.{pair_of, pairs_of, map_of, maps_of};
 
 use cert_read_parts::{array, number, number_u8, number_u32, three, token};
 use serde_json::Value;

@@ -4,7 +4,7 @@ ghost use Rattle.std.specs.Prelude.{◌≡◌, ◌<◌, ◌^◌, ◌+◌, ◌-�
 ghost use Rattle.vlt_syntax.specs.Tree as s;
 ghost use Rattle.vlt_syntax.specs.View.{name_of, decl_of};
 ghost use Rattle.vlt_kinds_types.specs.Names.Refusals.{least_from};
-ghost use Rattle.vlt_kinds_types.specs.Names.Globals.{names_seen, global_in, is_global, decl_name, global_of, counts_after, globals_of, counts_seen};
+ghost use Rattle.vlt_kinds_types.specs.Names.Globals.{names_seen, global_in, is_global, decl_name, global_of, counts_after, globals_of, counts_seen, names_again};
 
 use crate::names::found::LeastRefusal;
 use indexmap::IndexMap;

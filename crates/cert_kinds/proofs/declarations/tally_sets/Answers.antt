@@ -1,7 +1,7 @@
 use Rattle.std.proofs.Common.{◌∙◌}
 use Rattle.vlt_core.specs.View.{set_of}
 use Rattle.vlt_core.specs.KindedHeads.{set_broken}
-use Rattle.cert_kinds.specs.Tallies.{tally_of}
+use Rattle.cert_kinds_tallies.specs.Tallies.{tally_of}
 use Rattle.cert_kinds.proofs.Declared.{row_next}
 use Rattle.cert_kinds.proofs.declarations.tally_sets.Goals as goal
 

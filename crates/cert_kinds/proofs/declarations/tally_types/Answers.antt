@@ -1,6 +1,6 @@
 use Rattle.std.proofs.Common.{◌∙◌}
 use Rattle.vlt_core.specs.View.{program_of, type_of}
-use Rattle.cert_kinds.specs.Tallies.{tally_of}
+use Rattle.cert_kinds_tallies.specs.Tallies.{tally_of}
 use Rattle.cert_kinds.specs.Whole.{numbered_type_rows}
 use Rattle.cert_kinds.proofs.Declared.{rows_next}
 use Rattle.cert_kinds.proofs.declarations.tally_types.Goals as goal

@@ -1,6 +1,6 @@
 use Rattle.std.proofs.Common.{◌≡◌, map, drop}
 use Rattle.vlt_core.specs.View.{program_of, type_of}
-use Rattle.cert_kinds.specs.Tallies.{tally_of, tallied}
+use Rattle.cert_kinds_tallies.specs.Tallies.{tally_of, tallied}
 use Rattle.cert_kinds.specs.Whole.{types_rows, types_rows_from}
 use Rattle.cert_kinds.proofs.declarations.tally_types.Given as goal
 

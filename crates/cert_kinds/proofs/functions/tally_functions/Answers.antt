@@ -1,7 +1,7 @@
 use Rattle.std.proofs.Common.{◌∙◌}
 use Rattle.vlt_core.specs.Kinded.{function_rows}
 use Rattle.vlt_core.specs.View.{program_of, func_of}
-use Rattle.cert_kinds.specs.Tallies.{tally_of}
+use Rattle.cert_kinds_tallies.specs.Tallies.{tally_of}
 use Rattle.cert_kinds.proofs.Declared.{rows_next}
 use Rattle.cert_kinds.proofs.functions.tally_functions.Goals as goal
 

@@ -1,6 +1,6 @@
 use Rattle.std.proofs.Common.{◌≡◌, map, drop}
 use Rattle.vlt_core.specs.View.{program_of, func_of}
-use Rattle.cert_kinds.specs.Tallies.{tally_of, tallied}
+use Rattle.cert_kinds_tallies.specs.Tallies.{tally_of, tallied}
 use Rattle.cert_kinds.specs.Whole.{functions_rows, functions_rows_from}
 use Rattle.cert_kinds.proofs.functions.tally_functions.Given as goal
 

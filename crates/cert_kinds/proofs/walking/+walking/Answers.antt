@@ -9,8 +9,8 @@ use Rattle.cert_kinds_types.specs.Least.{lesser}
 use Rattle.cert_kinds_exprs.specs.Scopes.{ids_of}
 use Rattle.cert_kinds_blocks.specs.Scoped.{program_in, func_in}
 use Rattle.cert_kinds_blocks.specs.Flat.{around_of}
-use Rattle.cert_kinds.specs.declared.tallies.Walked.{Walked}
-use Rattle.cert_kinds.specs.Tallies.{tally_of}
+use Rattle.cert_kinds_tallies.specs.declared.tallies.Walked.{Walked}
+use Rattle.cert_kinds_tallies.specs.Tallies.{tally_of}
 use Rattle.cert_kinds.proofs.Tallying.{statement}
 use Rattle.cert_kinds.proofs.Walks.{as_form, after_own, after_first, left_block, next_stmt_rows, next_stmt_ids, next_arm_rule, next_arm_rows, next_arm_ids}
 use Rattle.cert_kinds.proofs.walking.+walking.Goals as goal

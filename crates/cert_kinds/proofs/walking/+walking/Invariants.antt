@@ -5,7 +5,7 @@ use Rattle.cert_kinds_types.specs.Least.{least, lesser}
 use Rattle.cert_kinds_exprs.specs.Scopes.{ids_of}
 use Rattle.cert_kinds_blocks.specs.Scoped.{program_in, func_in}
 use Rattle.cert_kinds_blocks.specs.Flat.{around_of}
-use Rattle.cert_kinds.specs.Tallies.{tally_of, tallied}
+use Rattle.cert_kinds_tallies.specs.Tallies.{tally_of, tallied}
 use Rattle.cert_kinds.proofs.walking.+walking.Given as goal
 
 abbrev pub invariant-walk_stmts-loop-stmt : goal.invariant-walk_stmts-loop-stmt

@@ -1,5 +1,5 @@
 use Rattle.vlt_core.specs.View.{program_of}
-use Rattle.cert_kinds.specs.Tallies.{tally_of}
+use Rattle.cert_kinds_tallies.specs.Tallies.{tally_of}
 use Rattle.cert_kinds.proofs.Declared.{program_rows}
 use Rattle.cert_kinds.proofs.whole.tally_program.Goals as goal
 

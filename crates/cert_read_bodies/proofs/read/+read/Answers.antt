@@ -3,11 +3,12 @@ use Rattle.vlt_core.specs.View.{expr_of}
 use Rattle.cert_rows.specs.Rows as row
 use Rattle.cert_format.specs.Drafts as s
 use Rattle.cert_format.specs.Drafts.{head, may_arm}
-use Rattle.cert_read_rows.specs.Maps.{maps_of}
+use Rattle.cert_read_parts.specs.Maps.{maps_of}
 use Rattle.cert_read_rows.specs.Heads.{head_of, arm_of}
 use Rattle.cert_read_rows.specs.Statements.{plain_of, stmt_of}
 use Rattle.vlt_core.specs.HeldView.{toks_of}
-use Rattle.cert_read_bodies.specs.Tree.{block_of, arms_of, drafts_of, ending_of}
+use Rattle.cert_read_parts.specs.Endings.{ending_of}
+use Rattle.cert_read_bodies.specs.Tree.{block_of, arms_of, drafts_of}
 use Rattle.cert_read_bodies.specs.Reads.{ReadsDraft}
 use Rattle.cert_read_bodies.proofs.Rowed.{simple, blocked, chosen, switched, is_plain_row, deep_so}
 use Rattle.cert_read_bodies.proofs.Turned.{began, turned, finished, broken_off, cut, is_last, not_last, not_whole, is_whole}

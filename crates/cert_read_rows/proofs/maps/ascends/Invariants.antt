@@ -1,6 +1,6 @@
 use Rattle.std.proofs.Common.{◌≡◌, ◌≤◌, drop}
 use Rattle.cert_rows.specs.Values.{ascends}
-use Rattle.cert_read_rows.specs.Maps.{pairs_of}
+use Rattle.cert_read_parts.specs.Maps.{pairs_of}
 use Rattle.cert_read_rows.proofs.maps.ascends.Given as goal
 
 abbrev pub invariant-loop-x : goal.invariant-loop-x

@@ -3,10 +3,13 @@ use Rattle.std.specs.Prelude.{◌≡◌, ℕ, suc, nat_lt, if◌then◌else◌, 
 use Rattle.std.specs.Option.{option_map}
 use Rattle.vlt_core.specs.KindedHeads.{Rules}
 use Rattle.cert_kinds_types.specs.Least.{least}
-use Rattle.cert_kinds.specs.Outcomes.{last_row}
-use Rattle.cert_kinds.specs.declared.tallies.Broken.{Broken}
-use Rattle.cert_kinds.specs.declared.tallies.Tally.{Tally as CodeTally}
-use Rattle.cert_kinds.specs.declared.tallies.Walked.{Walked}
+use Rattle.cert_kinds_tallies.specs.declared.tallies.Broken.{Broken}
+use Rattle.cert_kinds_tallies.specs.declared.tallies.Tally.{Tally as CodeTally}
+use Rattle.cert_kinds_tallies.specs.declared.tallies.Walked.{Walked}
+
+-- The greatest number of a row that is counted. A program with more rows than that fits no machine.
+abbrev pub last_row : ℕ
+last_row = 18446744073709551615
 
 -- the number of the row after this one, as far as rows are counted
 unfoldable pub row_after : ℕ → ℕ

@@ -3,7 +3,7 @@
 ghost use Rattle.std.specs.Prelude.{◌≡◌};
 ghost use Rattle.std.specs.Option.{option_map};
 ghost use Rattle.cert_kinds_types.specs.Least.{lesser};
-ghost use Rattle.cert_kinds.specs.Tallies as z;
+ghost use Rattle.cert_kinds_tallies.specs.Tallies as z;
 
 use cert_kinds_types::lesser;
 
