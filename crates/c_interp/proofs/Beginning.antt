@@ -15,8 +15,8 @@ use Rattle.c_machine.specs.Within.{longest_name, AreWithin}
 use Rattle.c_machine.proofs.Starting.{first_fits}
 use Rattle.c_machine.proofs.Theorems.{machine_is_right}
 use Rattle.c_machine.proofs.Within.{main_within}
-use Rattle.c_primitives.specs.declared.values.value.Value.{Value}
-use Rattle.c_primitives.specs.Values.Shown.{shown_slots, AreMadeSlots}
+use Rattle.c_values.specs.declared.value.Value.{Value}
+use Rattle.c_values.specs.Shown.{shown_slots, AreMadeSlots}
 use Rattle.c_primitives.specs.declared.world.World.{World}
 use Rattle.vlt_steps.specs.Writing.{Outside}
 use Rattle.c_primitives.proofs.Coming.{silent}

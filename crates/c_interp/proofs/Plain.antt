@@ -5,8 +5,8 @@ use Rattle.vlt_rings.specs.Things.{Things}
 use Rattle.c_syntax.specs.declared.program.CVar.{CVar}
 use Rattle.c_meaning.specs.World.{Outcome, undefined}
 use Rattle.c_meaning.specs.Primitives.{Effect, gives, breaks_rule, ends}
-use Rattle.c_primitives.specs.declared.values.value.Value.{Value}
-use Rattle.c_primitives.specs.Values.Shown.{AreMadeSlots}
+use Rattle.c_values.specs.declared.value.Value.{Value}
+use Rattle.c_values.specs.Shown.{AreMadeSlots}
 use Rattle.c_primitives.specs.declared.halt.Halt.{Halt}
 use Rattle.c_primitives.specs.declared.halt.Halt.TheVariants as halt
 use Rattle.c_primitives.specs.declared.world.World.{World}

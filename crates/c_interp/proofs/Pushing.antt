@@ -8,9 +8,9 @@ use Rattle.c_syntax.specs.C.{Arg}
 use Rattle.c_meaning.specs.World as model
 use Rattle.c_meaning.specs.Values.{◌>>=◌, arg_value, arg_values}
 use Rattle.c_machine.specs.Machine.{names_of}
-use Rattle.c_primitives.specs.declared.values.value.Value.{Value}
-use Rattle.c_primitives.specs.declared.values.vars.Vars.{Vars as Frame}
-use Rattle.c_primitives.specs.Values.Shown.{value_view, names_in, shown_vars, AreMadeSlots, IsValue, IsMadeValue}
+use Rattle.c_values.specs.declared.value.Value.{Value}
+use Rattle.c_values.specs.declared.vars.Vars.{Vars as Frame}
+use Rattle.c_values.specs.Shown.{value_view, names_in, shown_vars, AreMadeSlots, IsValue, IsMadeValue}
 use Rattle.c_interp.specs.declared.frames.Frames.{Frames}
 use Rattle.c_interp.specs.Calling.{vars_of, AreSame, HasPushed, AreGiven}
 use Rattle.c_interp.proofs.Setting.{vars_are, made_drop, made_one}

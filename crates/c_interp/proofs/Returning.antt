@@ -6,8 +6,8 @@ use Rattle.c_syntax.specs.View.{func_of}
 use Rattle.c_meaning.specs.World as model
 use Rattle.c_machine.specs.Machine as m
 use Rattle.c_machine.specs.Machine.{State, names_of}
-use Rattle.c_primitives.specs.declared.values.value.Value.{Value}
-use Rattle.c_primitives.specs.Values.Shown.{value_view, shown_slots}
+use Rattle.c_values.specs.declared.value.Value.{Value}
+use Rattle.c_values.specs.Shown.{value_view, shown_slots}
 use Rattle.c_interp.specs.declared.stop.CStop.{CStop}
 use Rattle.c_interp.specs.declared.stop.CStop.TheVariants.{Stopped}
 use Rattle.vlt_steps.specs.declared.stop.Stop.TheVariants.{Done}

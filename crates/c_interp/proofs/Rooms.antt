@@ -16,7 +16,7 @@ use Rattle.c_machine.proofs.Fitting.{tasks_within, slots_within}
 use Rattle.c_machine.proofs.Starting.{functions_small}
 use Rattle.c_machine.proofs.Theorems.{they_suffice}
 use Rattle.c_machine.proofs.Within.{IsWithin, function_within, moved_falls}
-use Rattle.c_primitives.specs.Values.Shown.{value_view}
+use Rattle.c_values.specs.Shown.{value_view}
 use Rattle.c_primitives.specs.declared.world.World.{World}
 use Rattle.c_primitives.specs.Shown.{IsReady, KeepsRoom}
 use Rattle.c_interp.specs.declared.rules.Rules.{Rules}

@@ -9,11 +9,11 @@ use Rattle.c_syntax.specs.Kinds.{same_variable}
 use Rattle.c_syntax.specs.View.{func_of}
 use Rattle.c_meaning.specs.World as model
 use Rattle.c_machine.specs.Machine.{value_under, with_value_under, names_of, State, vars_in, with_slot}
-use Rattle.c_primitives.specs.declared.values.value.Value.{Value}
-use Rattle.c_primitives.specs.declared.values.value.Value.TheVariants.{Number, Reference}
-use Rattle.c_primitives.specs.declared.values.vars.Vars.{Vars as Frame}
-use Rattle.c_primitives.specs.Values.Places.{place_in}
-use Rattle.c_primitives.specs.Values.Shown.{value_view, shown_slots, names_in, shown_vars, AreMadeSlots, IsMadeValue}
+use Rattle.c_values.specs.declared.value.Value.{Value}
+use Rattle.c_values.specs.declared.value.Value.TheVariants.{Number, Reference}
+use Rattle.c_values.specs.declared.vars.Vars.{Vars as Frame}
+use Rattle.c_values.specs.Places.{place_in}
+use Rattle.c_values.specs.Shown.{value_view, shown_slots, names_in, shown_vars, AreMadeSlots, IsMadeValue}
 use Rattle.c_primitives.proofs.Coming.{made_kept}
 use Rattle.c_interp.specs.declared.frames.Frames.{Frames}
 use Rattle.c_interp.specs.Shown.{state_of}

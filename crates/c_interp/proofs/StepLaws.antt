@@ -10,9 +10,9 @@ use Rattle.c_meaning.specs.Values.{◌>>=◌, a_number, value_of}
 use Rattle.c_machine.specs.Machine as m
 use Rattle.c_machine.specs.Machine.{Next, State, vars_in}
 use Rattle.c_memory.specs.Shown.{blocks_of}
-use Rattle.c_primitives.specs.declared.values.value.Value.{Value}
-use Rattle.c_primitives.specs.declared.values.value.Value.TheVariants.{Number, Reference}
-use Rattle.c_primitives.specs.Values.Shown.{value_view, IsValue, AreMadeSlots, IsMadeValue}
+use Rattle.c_values.specs.declared.value.Value.{Value}
+use Rattle.c_values.specs.declared.value.Value.TheVariants.{Number, Reference}
+use Rattle.c_values.specs.Shown.{value_view, IsValue, AreMadeSlots, IsMadeValue}
 use Rattle.c_primitives.specs.declared.world.World.{World}
 use Rattle.c_primitives.specs.Shown.{Shows}
 use Rattle.vlt_steps.specs.Writing.{Outside}

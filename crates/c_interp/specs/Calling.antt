@@ -7,8 +7,8 @@ use Rattle.c_meaning.specs.World.{Vars}
 use Rattle.c_meaning.specs.Values.{arg_values}
 use Rattle.c_meaning.specs.Run.{Setup, Numbered, depth_in, has_room}
 use Rattle.c_machine.specs.Machine.{value_under, names_of}
-use Rattle.c_primitives.specs.declared.values.value.Value.{Value}
-use Rattle.c_primitives.specs.Values.Shown.{value_view, shown_slots, AreMadeSlots}
+use Rattle.c_values.specs.declared.value.Value.{Value}
+use Rattle.c_values.specs.Shown.{value_view, shown_slots, AreMadeSlots}
 use Rattle.c_interp.specs.declared.rules.Found.{Found}
 use Rattle.c_interp.specs.declared.frames.Frames.{Frames}
 

@@ -12,8 +12,8 @@ use Rattle.c_machine.specs.Laws.{LeadsTo}
 use Rattle.c_machine.specs.Bounds.{tall_of, value_slots, block_cells}
 use Rattle.c_machine.specs.Within.{longest_name}
 use Rattle.c_memory.specs.Shown.{cells_of}
-use Rattle.c_primitives.specs.declared.values.value.Value.{Value}
-use Rattle.c_primitives.specs.Values.Shown.{AreMadeSlots}
+use Rattle.c_values.specs.declared.value.Value.{Value}
+use Rattle.c_values.specs.Shown.{AreMadeSlots}
 use Rattle.c_primitives.specs.declared.world.World.{World}
 use Rattle.c_primitives.specs.Shown.{Shows, IsReady}
 use Rattle.c_primitives.specs.Stops.{Wrote}

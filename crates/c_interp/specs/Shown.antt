@@ -11,8 +11,8 @@ use Rattle.c_machine.specs.Machine.{State, Conf, Next, names_of}
 use Rattle.c_machine.specs.Bounds.{sizes_of, Fits, cells_in_stmt, tall_of, value_slots, block_cells}
 use Rattle.c_machine.specs.Within.{name_in_stmt, AreWithin, longest_name}
 use Rattle.c_memory.specs.Shown.{cells_of}
-use Rattle.c_primitives.specs.declared.values.value.Value.{Value}
-use Rattle.c_primitives.specs.Values.Shown.{value_view, shown_slots, AreMadeSlots, IsMadeSlot}
+use Rattle.c_values.specs.declared.value.Value.{Value}
+use Rattle.c_values.specs.Shown.{value_view, shown_slots, AreMadeSlots, IsMadeSlot}
 use Rattle.c_primitives.specs.declared.world.World.{World}
 use Rattle.c_primitives.specs.Shown.{Shows, IsReady, KeepsRoom}
 use Rattle.c_primitives.specs.Stops.{Wrote}

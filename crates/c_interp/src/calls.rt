@@ -8,8 +8,8 @@ ghost use Rattle.c_machine.specs.Machine as m;
 ghost use Rattle.c_primitives.specs.Shown.{IsReady};
 ghost use Rattle.vlt_steps.specs.Writing.{Outside};
 ghost use Rattle.c_interp.specs.declared.frames.Frames.{Frames as Values};
-ghost use Rattle.c_primitives.specs.declared.values.value.Value.{Value};
-ghost use Rattle.c_primitives.specs.Values.Shown.{value_view};
+ghost use Rattle.c_values.specs.declared.value.Value.{Value};
+ghost use Rattle.c_values.specs.Shown.{value_view};
 ghost use Rattle.c_interp.specs.Shown.{tasks_of, state_of, setup_of, Came, HasRoomToDo};
 ghost use Rattle.c_interp.specs.Calling.{ArePushed, HasPushed, IsDepth, numbered_of};
 
@@ -18,8 +18,9 @@ use crate::rules::{Found, Rules};
 use crate::stack::{after, no_value};
 use crate::stop::CStop;
 use crate::task::{Caller, Task};
-use c_primitives::{World, arg};
+use c_primitives::World;
 use c_syntax::{CArg, CCall, CFunc, CName, CVar};
+use c_values::arg;
 use vlt_io::Sink;
 use vlt_steps::{Stop, put};
 

@@ -2,13 +2,13 @@
 
 ghost use Rattle.std.specs.Prelude.{◌≡◌, ◌<◌, ◌≤◌, ◌+◌, ◌++◌, ◌∷◌, [], ◌^◌, ℕ, None, Some, IfSome, drop, slice_set, take, length, replicate, vec_capacity};
 ghost use Rattle.c_syntax.specs.View.{func_of};
-ghost use Rattle.c_primitives.specs.Values.Shown.{value_view, names_in};
-ghost use Rattle.c_primitives.specs.Values.Places.{place_in};
+ghost use Rattle.c_values.specs.Shown.{value_view, names_in};
+ghost use Rattle.c_values.specs.Places.{place_in};
 ghost use Rattle.c_machine.specs.Machine.{names_of, with_slot};
 ghost use Rattle.c_meaning.specs.World as model;
 
-use c_primitives::{Value, Vars, find};
 use c_syntax::{CFunc, CVar};
+use c_values::{Value, Vars, find};
 use vlt_steps::put;
 
 /// The values of all frames, and of the running one where they begin, its function, whether this is glue, and how many

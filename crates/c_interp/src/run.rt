@@ -11,7 +11,8 @@ use crate::rules::{Found, Rules};
 use crate::step::step;
 use crate::stop::CStop;
 use crate::task::Task;
-use c_primitives::{Value, World};
+use c_primitives::World;
+use c_values::Value;
 use vlt_io::Sink;
 use vlt_steps::put;
 

@@ -5,7 +5,7 @@ ghost use Rattle.vlt_rings.specs.Things.{Things};
 ghost use Rattle.c_meaning.specs.World as model;
 ghost use Rattle.c_meaning.specs.Primitives.{Effect};
 ghost use Rattle.c_machine.specs.Machine as m;
-ghost use Rattle.c_primitives.specs.Values.Shown.{AreMadeSlots};
+ghost use Rattle.c_values.specs.Shown.{AreMadeSlots};
 ghost use Rattle.c_primitives.specs.declared.world.World.{World as Shown};
 ghost use Rattle.c_primitives.specs.Shown.{Comes};
 ghost use Rattle.vlt_steps.specs.Writing.{Outside};
@@ -16,8 +16,9 @@ ghost use Rattle.c_interp.specs.Shown.{state_of, caller_of, tasks_of, given_view
 use crate::frames::Frames;
 use crate::stop::{CStop, stop_at};
 use crate::task::{Caller, Task};
-use c_primitives::{Halt, Value};
+use c_primitives::Halt;
 use c_syntax::{CResult, CVar};
+use c_values::Value;
 use vlt_steps::{Stop, put};
 
 /// The rule for a value that isn't given, and for the end of a function that is to give one.

@@ -1,2 +1,2 @@
-pub mod Ends
-pub mod Payloads
+mod Ends
+mod Payloads

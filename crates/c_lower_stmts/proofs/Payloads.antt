@@ -6,9 +6,9 @@ use Rattle.vlt_core.specs.Core.{Func, Program}
 use Rattle.c_syntax.specs.declared.program.CVar.{CVar}
 use Rattle.c_syntax.specs.C as c
 use Rattle.c_lower.specs.Slots.{Slot, slot_of, slot_vars, var_slots, no_slot}
-use Rattle.c_lower.specs.Statements.{arm_copies, after_first}
+use Rattle.c_lower.specs.Statements.{arm_copies}
 use Rattle.c_lower_exprs.proofs.Laws.{vars_of_slots}
-use Rattle.c_lower_stmts.specs.Values.{payloads_copied, slot_at, slot_in}
+use Rattle.c_lower_stmts.specs.Payloads.{payloads_copied, slot_at, slot_in}
 
 abbrev or_no_slot : Option CVar → CVar
 or_no_slot None = no_slot
@@ -40,11 +40,3 @@ copies_are p f v (i ∷ positions) (w ∷ ws) =
 pub no_payloads : (p : Program) (f : Func) (v : ℕ) (positions : List ℕ) → payloads_copied p f v positions [] ≡ []
 no_payloads p f v [] = refl
 no_payloads p f v (i ∷ positions) = refl
-
-rest_mapped : (xs : List Slot) → map (λ (x : Slot). x.var) (after_first xs) ≡ after_first (map (λ (x : Slot). x.var) xs)
-rest_mapped [] = refl
-rest_mapped (x ∷ xs) = refl
-
--- the variables of the slots after the first
-pub rest_vars : (p : Program) (f : Func) (v : ℕ) (xs : List Slot) → xs ≡ after_first (var_slots p f v) → map (λ (x : Slot). x.var) xs ≡ after_first (slot_vars p f v)
-rest_vars p f v xs e = ap (map (λ (x : Slot). x.var)) e ∙ rest_mapped (var_slots p f v) ∙ ap after_first (vars_of_slots p f v)

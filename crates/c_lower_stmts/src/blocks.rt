@@ -11,11 +11,11 @@ ghost use Rattle.c_lower.specs.Statements.{arm_copies, case_positions, runtime_c
 ghost use Rattle.c_lower_exprs.specs.Tables.{numbers_of, slot_view};
 ghost use Rattle.c_lower_exprs.specs.Scopes.{IsScope, func_in, program_in};
 ghost use Rattle.c_lower_exprs.specs.Coded.{atom_of};
-ghost use Rattle.c_lower_stmts.specs.Written.{Writes};
-ghost use Rattle.c_lower_stmts.specs.Values.{payloads_copied, slot_at};
+ghost use Rattle.c_lower_calls.specs.Written.{Writes};
+ghost use Rattle.c_lower_stmts.specs.Payloads.{payloads_copied, slot_at};
 ghost use Rattle.c_lower_stmts.specs.Blocks.{case_code, choice_code, turn_code, BeginsFocus, IsFocusAt};
 
-use crate::runtime::{call_one, call_two, value_one};
+use c_lower_calls::{call_one, call_two, value_one};
 use c_lower_exprs::{Atom, Numbers, Scope, Slot, Sort, Value, lower_value, set_atom, with_number};
 use c_syntax::{CPrim, CStmt, CVar};
 use std::alloc::Global;

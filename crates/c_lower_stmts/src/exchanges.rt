@@ -9,10 +9,9 @@ ghost use Rattle.c_lower.specs.Slots.{cells_at, vars_at};
 ghost use Rattle.c_lower.specs.Statements.{open_fields, open_slots, owning_positions, swap_slot, swap_slots};
 ghost use Rattle.c_lower_exprs.specs.Tables.{numbers_of, slot_view, sort_of};
 ghost use Rattle.c_lower_exprs.specs.Scopes.{IsScope, func_in, program_in};
-ghost use Rattle.c_lower_stmts.specs.Written.{exchanged, opened};
+ghost use Rattle.c_lower_stmts.specs.Exchanges.{exchanged, opened};
 
-use crate::copies::put_atom;
-use crate::runtime::{call_one, call_two};
+use c_lower_calls::{call_one, call_two, put_atom};
 use c_lower_exprs::{Atom, Numbers, Scope, Slot, Sort, set_atom};
 use c_syntax::{CCell, CExpr, CPrim, CStmt, CVar};
 use std::alloc::Global;

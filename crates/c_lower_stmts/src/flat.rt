@@ -7,15 +7,14 @@ ghost use Rattle.c_syntax.specs.View.{stmt_of};
 ghost use Rattle.c_lower.specs.Statements.{form_code, stmt_code};
 ghost use Rattle.c_lower_exprs.specs.Tables.{numbers_of};
 ghost use Rattle.c_lower_exprs.specs.Scopes.{IsScope, func_in, program_in};
-ghost use Rattle.c_lower_stmts.specs.Written.{Writes};
+ghost use Rattle.c_lower_calls.specs.Written.{Writes};
 ghost use Rattle.c_lower_stmts.specs.Blocks.{is_flat};
 
-use crate::calls::lower_call;
-use crate::returns::lower_return;
 use crate::simple::{
     lower_adopt, lower_build, lower_drop, lower_input, lower_new, lower_open, lower_own,
     lower_print, lower_put, lower_release, lower_set, lower_swap, lower_unpack,
 };
+use c_lower_calls::{lower_call, lower_return};
 use c_lower_exprs::{Numbers, Scope};
 use c_syntax::CStmt;
 use std::alloc::Global;

@@ -7,13 +7,14 @@ ghost use Rattle.c_syntax.specs.View.{stmt_of};
 ghost use Rattle.c_lower.specs.Statements.{build_code, make_code, simple_code};
 ghost use Rattle.c_lower_exprs.specs.Tables.{numbers_of};
 ghost use Rattle.c_lower_exprs.specs.Scopes.{IsScope, func_in, program_in};
-ghost use Rattle.c_lower_stmts.specs.Written.{Writes};
+ghost use Rattle.c_lower_calls.specs.Written.{Writes};
 
-use crate::copies::{copy_atoms, put_atoms};
 use crate::exchanges::{open_fields, swap_field};
-use crate::objects::{new_block, own_fields, put_fields, release_owners};
-use crate::runtime::{call_one, call_two, value_none};
 use crate::variants::{build_slots, first_atoms};
+use c_lower_calls::{
+    call_one, call_two, copy_atoms, new_block, own_fields, put_atoms, put_fields, release_owners,
+    value_none,
+};
 use c_lower_exprs::{
     Atom, Numbers, Scope, lower_expr, lower_operand, lower_operands, lower_value, past_all,
     set_atom,

@@ -7,7 +7,7 @@ ghost use Rattle.c_syntax.specs.View.{stmt_of};
 ghost use Rattle.c_lower.specs.Statements.{arms_code, block_code, form_code, list_code};
 ghost use Rattle.c_lower_exprs.specs.Tables.{numbers_of};
 ghost use Rattle.c_lower_exprs.specs.Scopes.{IsScope, func_in, program_in};
-ghost use Rattle.c_lower_stmts.specs.Written.{Writes};
+ghost use Rattle.c_lower_calls.specs.Written.{Writes};
 ghost use Rattle.c_lower_stmts.specs.Blocks.{arm_code};
 
 use crate::blocks::{

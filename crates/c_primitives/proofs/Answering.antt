@@ -5,8 +5,8 @@ use Rattle.vlt_ops.specs.Operator.{bool_number}
 use Rattle.vlt_rings.specs.Things.{Things}
 use Rattle.c_meaning.specs.World as model
 use Rattle.c_meaning.specs.Primitives.{Effect, gives, reads_input, has_more, reads_answer, ends_answer}
-use Rattle.c_primitives.specs.declared.values.value.Value.{Value}
-use Rattle.c_primitives.specs.declared.values.value.Value.TheVariants.{Number}
+use Rattle.c_values.specs.declared.value.Value.{Value}
+use Rattle.c_values.specs.declared.value.Value.TheVariants.{Number}
 use Rattle.c_primitives.specs.declared.halt.Halt.TheVariants.{Broken, Stopped}
 use Rattle.vlt_steps.specs.declared.stop.Stop.TheVariants.{InputEnd, BadAnswer}
 use Rattle.c_primitives.specs.declared.world.Talk.{Talk}

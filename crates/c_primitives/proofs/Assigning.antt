@@ -9,8 +9,8 @@ use Rattle.c_meaning.specs.Values.{value_of, base_in}
 use Rattle.c_meaning.specs.Primitives.{Effect, breaks_rule, or_broken, set_does, put_does, base_of, write_effect}
 use Rattle.c_memory.specs.declared.cells.Ref.{Ref}
 use Rattle.c_memory.specs.Shown.{number_of, IsMade, blocks_of}
-use Rattle.c_primitives.specs.declared.values.value.Value.{Value}
-use Rattle.c_primitives.specs.Values.Shown.{IsValue, IsReference, IsMadeValue, value_view}
+use Rattle.c_values.specs.declared.value.Value.{Value}
+use Rattle.c_values.specs.Shown.{IsValue, IsReference, IsMadeValue, value_view}
 use Rattle.c_primitives.specs.declared.halt.Halt.{Halt}
 use Rattle.c_primitives.specs.declared.halt.Halt.TheVariants.{Broken}
 use Rattle.c_primitives.specs.declared.world.World.{World}

@@ -15,9 +15,9 @@ use Rattle.c_meaning.specs.Primitives.{Effect, gives, breaks_rule, ends, or_brok
 use Rattle.c_memory.specs.declared.cells.Ref.{Ref}
 use Rattle.c_memory.specs.declared.blocks.Blocks.{Blocks}
 use Rattle.c_memory.specs.Shown.{number_of, heap_of, cells_of, IsSound, IsMade, block_in, blocks_of, Come, Did, DidBack, IsNew, IsParent}
-use Rattle.c_primitives.specs.declared.values.value.Value.{Value}
-use Rattle.c_primitives.specs.declared.values.value.Value.TheVariants.{Reference}
-use Rattle.c_primitives.specs.Values.Shown.{IsReference, IsMadeSlot, value_view}
+use Rattle.c_values.specs.declared.value.Value.{Value}
+use Rattle.c_values.specs.declared.value.Value.TheVariants.{Reference}
+use Rattle.c_values.specs.Shown.{IsReference, IsMadeSlot, value_view}
 use Rattle.c_primitives.specs.declared.halt.Halt.{Halt}
 use Rattle.c_primitives.specs.declared.halt.Halt.TheVariants.{Broken, Stopped}
 use Rattle.vlt_steps.specs.declared.stop.Stop.TheVariants.{Trap}

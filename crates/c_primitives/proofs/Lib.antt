@@ -4,4 +4,3 @@ pub mod Registering
 pub mod Assigning
 pub mod Answering
 pub mod Telling
-pub mod OfValues

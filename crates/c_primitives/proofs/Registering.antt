@@ -8,8 +8,8 @@ use Rattle.c_meaning.specs.World as model
 use Rattle.c_meaning.specs.Primitives.{gives, at_index, index_below, from_register, puts_number, puts_reference, gets_number, gets_reference}
 use Rattle.c_memory.specs.declared.cells.Ref.{Ref}
 use Rattle.c_memory.specs.Shown.{number_of, IsMade}
-use Rattle.c_primitives.specs.declared.values.value.Value.{Value}
-use Rattle.c_primitives.specs.declared.values.value.Value.TheVariants.{Number, Reference}
+use Rattle.c_values.specs.declared.value.Value.{Value}
+use Rattle.c_values.specs.declared.value.Value.TheVariants.{Number, Reference}
 use Rattle.c_primitives.specs.declared.halt.Halt.{Halt}
 use Rattle.c_primitives.specs.declared.halt.Halt.TheVariants.{Broken}
 use Rattle.c_primitives.specs.declared.world.World.{World}

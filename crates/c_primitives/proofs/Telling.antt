@@ -14,7 +14,7 @@ use Rattle.vlt_numbers.specs.HostAnswers.{lists_of}
 use Rattle.c_meaning.specs.World as model
 use Rattle.c_meaning.specs.World.{Told, told_text, told_number, told_block, printed, called, line_of, event_text}
 use Rattle.c_meaning.specs.Primitives.{Effect, breaks_rule, nothing, with_event, tells_number, tells_block, takes_answer, asks}
-use Rattle.c_primitives.specs.declared.values.value.Value.{Value}
+use Rattle.c_values.specs.declared.value.Value.{Value}
 use Rattle.c_primitives.specs.declared.halt.Halt.{Halt}
 use Rattle.c_primitives.specs.declared.halt.Halt.TheVariants.{Broken, Stopped}
 use Rattle.vlt_steps.specs.declared.stop.Stop.TheVariants.{SinkFault}

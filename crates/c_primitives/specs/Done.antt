@@ -3,8 +3,8 @@ use Rattle.std.specs.Prelude.{ℕ, ℤ, pos, if◌then◌else◌, Bool, true, fa
 use Rattle.vlt_ops.specs.declared.TrapKind.TheVariants.{Overflow, ZeroDivisor}
 use Rattle.vlt_ops.specs.Operator.{equals}
 use Rattle.c_memory.specs.declared.cells.Ref.{Ref}
-use Rattle.c_primitives.specs.declared.values.value.Value.{Value}
-use Rattle.c_primitives.specs.declared.values.value.Value.TheVariants.{Number, Reference}
+use Rattle.c_values.specs.declared.value.Value.{Value}
+use Rattle.c_values.specs.declared.value.Value.TheVariants.{Number, Reference}
 use Rattle.c_primitives.specs.declared.halt.Halt.{Halt}
 use Rattle.c_primitives.specs.declared.halt.Halt.TheVariants.{Broken, Stopped}
 use Rattle.vlt_steps.specs.declared.stop.Stop.TheVariants.{Trap, BadAnswer}

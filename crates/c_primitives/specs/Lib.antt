@@ -4,4 +4,3 @@ pub mod Done
 pub mod Shown
 pub mod Start
 pub mod Taking
-pub mod Values

@@ -14,9 +14,9 @@ use Rattle.c_machine.specs.Bounds.{cells_in_call}
 use Rattle.c_machine.specs.Within.{name_in_call}
 use Rattle.c_memory.specs.declared.cells.Ref.{Ref}
 use Rattle.c_memory.specs.Shown.{number_of, heap_of, cells_of, IsSound, IsMade, Holds, blocks_of}
-use Rattle.c_primitives.specs.declared.values.value.Value.{Value}
-use Rattle.c_primitives.specs.declared.values.vars.Vars.{Vars as Frame}
-use Rattle.c_primitives.specs.Values.Shown.{value_view, shown_vars, AreMadeSlots, IsMadeValue, IsMadeSlot}
+use Rattle.c_values.specs.declared.value.Value.{Value}
+use Rattle.c_values.specs.declared.vars.Vars.{Vars as Frame}
+use Rattle.c_values.specs.Shown.{value_view, shown_vars, AreMadeSlots, IsMadeValue, IsMadeSlot}
 use Rattle.c_primitives.specs.declared.halt.Halt.{Halt}
 use Rattle.c_primitives.specs.declared.halt.Halt.TheVariants.{Broken}
 use Rattle.vlt_steps.specs.Writing.{Outside}

@@ -1,7 +1,7 @@
 -- What the taking of an answer does.
 use Rattle.std.specs.Prelude.{◌≡◌, ℤ, ◌+◌, List, Option, Some, None, Result, Ok, Err, slice_get}
 use Rattle.vlt_numbers.specs.HostAnswers.{lists_of}
-use Rattle.c_primitives.specs.declared.values.value.Value.{Value}
+use Rattle.c_values.specs.declared.value.Value.{Value}
 use Rattle.c_primitives.specs.declared.halt.Halt.{Halt}
 use Rattle.c_primitives.specs.declared.halt.Halt.TheVariants.{Stopped}
 use Rattle.vlt_steps.specs.declared.stop.Stop.TheVariants.{AnswersEnd}

@@ -4,14 +4,14 @@ ghost use Rattle.std.specs.Prelude.{◌≡◌, map, option_map};
 ghost use Rattle.vlt_rings.specs.Things.{Things};
 ghost use Rattle.c_syntax.specs.View.{arg_of};
 ghost use Rattle.c_meaning.specs.Primitives.{number_of, reference_of, asked_cells, name_told};
-ghost use Rattle.c_primitives.specs.Values.Shown.{shown_vars, AreMadeSlots, IsReference};
+ghost use Rattle.c_values.specs.Shown.{shown_vars, AreMadeSlots, IsReference};
 ghost use Rattle.c_primitives.specs.Args as wanted;
 ghost use Rattle.c_primitives.specs.Args.{AreReferences, AreNumberAndReference};
 
 use crate::halt::{MISUSED, OTHER_TYPE};
-use crate::values::{Value, Vars, arg};
 use c_memory::Ref;
 use c_syntax::CArg;
+use c_values::{Value, Vars, arg};
 
 /// An argument that is a number.
 fn number(x: &CArg, vars: Vars) -> Result<i64, u8>

@@ -5,10 +5,10 @@ ghost use Rattle.c_syntax.specs.View.{expr_of};
 ghost use Rattle.c_meaning.specs.Primitives.{set_does, put_does, base_of};
 
 use crate::halt::{Halt, OTHER_TYPE, done};
-use crate::values::{Value, Vars, base, eval};
 use crate::world::World;
 use c_memory::Ref;
 use c_syntax::{CCell, CExpr};
+use c_values::{Value, Vars, base, eval};
 
 /// The number of the `p` variable of a cell.
 fn base_number(x: CCell) -> u64

@@ -3,7 +3,7 @@
 ghost use Rattle.std.specs.Prelude.{◌≡◌};
 ghost use Rattle.c_primitives.specs.Done.{done_as};
 
-use crate::values::Value;
+use c_values::Value;
 use vlt_steps::Stop;
 
 /// The rule for a value of the other type.

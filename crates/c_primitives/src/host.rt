@@ -10,9 +10,9 @@ ghost use Rattle.c_primitives.specs.Taking.{IsReading};
 
 use crate::args::{is_none, one_number};
 use crate::halt::{Halt, MISUSED};
-use crate::values::{Value, Vars};
 use crate::world::{Talk, World};
 use c_syntax::{CArg, CPrim};
+use c_values::{Value, Vars};
 use vlt_ops::TrapKind;
 use vlt_steps::{Stop, next};
 

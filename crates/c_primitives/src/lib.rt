@@ -1,5 +1,5 @@
 //! A primitive or an assignment of a C program, the variables of a frame and a run's world in; the world after it, out.
-//! Read `c_meaning/specs/Primitives.antt` first, then `specs/Values/Shown.antt` and `specs/Shown.antt`.
+//! Read `c_meaning/specs/Primitives.antt` first, then `c_values/specs/Shown.antt` and `specs/Shown.antt`.
 //! Used by: `c_interp::CMachine::go`.
 #![tactic(auto)]
 
@@ -11,9 +11,7 @@ mod host;
 mod primitive;
 mod registers;
 mod tell;
-mod values;
 mod world;
 
 pub use halt::Halt;
-pub use values::{Value, Vars, arg, eval, find};
 pub use world::{Tables, World};

@@ -5,9 +5,9 @@ ghost use Rattle.c_syntax.specs.View.{arg_of};
 ghost use Rattle.c_meaning.specs.Primitives.{primitive_does};
 
 use crate::halt::Halt;
-use crate::values::{Value, Vars};
 use crate::world::World;
 use c_syntax::{CArg, CPrim};
+use c_values::{Value, Vars};
 use vlt_io::Sink;
 
 impl World<'_> {

@@ -7,10 +7,10 @@ ghost use Rattle.c_primitives.specs.Done.{number_as, reference_as};
 
 use crate::args::{number_and_reference, one_number, two_numbers};
 use crate::halt::{Halt, NO_REGISTER};
-use crate::values::{Value, Vars};
 use crate::world::World;
 use c_memory::Ref;
 use c_syntax::{CArg, CPrim};
+use c_values::{Value, Vars};
 
 /// The index, if it is below the count.
 fn index(i: i64, count: usize) -> Option<usize>

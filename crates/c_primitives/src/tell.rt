@@ -7,9 +7,9 @@ ghost use Rattle.c_primitives.specs.Done.{told_of};
 
 use crate::args::{is_none, one_number, one_reference, one_text};
 use crate::halt::{Halt, MISUSED};
-use crate::values::{Value, Vars};
 use crate::world::{Talk, World};
 use c_syntax::{CArg, CPrim};
+use c_values::{Value, Vars};
 use vlt_io::Sink;
 use vlt_steps::lines::end;
 use vlt_steps::{Stop, begin, tell_number, tell_object, write_number};

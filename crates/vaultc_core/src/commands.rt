@@ -27,10 +27,9 @@ use crate::links::link_reply;
 use crate::load::load;
 use std::alloc::{AllocError, Global};
 use vaultc_replies::{NamedText, module_reply, read_tree, verdict, verified};
-use vaultc_runs::status::{NO_COMMAND, NO_MEMORY};
 use vaultc_runs::{
-    Caller, Reply, USAGE, finish, finish_reply, laid_out, not_had, not_had_in, refusal, run_c,
-    run_host, run_program,
+    Caller, NO_COMMAND, NO_MEMORY, Reply, USAGE, finish, finish_reply, laid_out, not_had,
+    not_had_in, refusal, run_c, run_host, run_program,
 };
 use vaultc_words::{
     Command, LinkFiles, ModuleFiles, RunFiles, Taken, TextCommand, read_command, read_file,

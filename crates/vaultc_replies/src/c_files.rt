@@ -16,8 +16,7 @@ use c_lower_program::{LowerError, lower};
 use c_printer::print_c;
 use c_syntax::CProgram;
 use std::alloc::{AllocError, Global};
-use vaultc_runs::status::DONE;
-use vaultc_runs::{Reply, over_limit};
+use vaultc_runs::{DONE, Reply, over_limit};
 use vlt_base::{C_BYTES, Memory, limit};
 use vlt_core::Program;
 

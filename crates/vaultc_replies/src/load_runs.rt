@@ -10,8 +10,7 @@ ghost use Rattle.vaultc_runs.specs.Loading.{is_done, is_cut};
 ghost use Rattle.vaultc_runs.specs.Shown.{shown_reply};
 
 use std::alloc::{AllocError, Global};
-use vaultc_runs::status::{DONE, NO_MEMORY};
-use vaultc_runs::{Kept, Reply, finish_end, finish_reply};
+use vaultc_runs::{DONE, Kept, NO_MEMORY, Reply, finish_end, finish_reply};
 use vaultc_words::{Generated, default_budgets};
 use vlt_core::Program;
 use vlt_interp::runs::run;

@@ -20,8 +20,7 @@ ghost use Rattle.vaultc_runs.specs.Shown.{shown_reply};
 
 use crate::source::read_tree;
 use std::alloc::{AllocError, Global};
-use vaultc_runs::status::{DONE, NO_PROGRAM, NOT_ACCEPTED};
-use vaultc_runs::{Reply, in_file, over_limit, refusal};
+use vaultc_runs::{DONE, NO_PROGRAM, NOT_ACCEPTED, Reply, in_file, over_limit, refusal};
 use vlt_core::{FlowFault, Program};
 use vlt_iface::{IfaceError, RAISE, View, join_modules, view_of};
 use vlt_kinds::{KindError, tables};

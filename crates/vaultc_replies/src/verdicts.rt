@@ -10,8 +10,7 @@ ghost use Rattle.vaultc_replies.specs.Verdicts.{check_reply};
 ghost use Rattle.vaultc_runs.specs.Shown.{shown_reply};
 
 use std::alloc::{AllocError, Global};
-use vaultc_runs::status::{DONE, NO_PROGRAM, NOT_ACCEPTED};
-use vaultc_runs::{Reply, over_limit};
+use vaultc_runs::{DONE, NO_PROGRAM, NOT_ACCEPTED, Reply, over_limit};
 use vlt_core::{FlowFault, Program};
 use vlt_reports as reports;
 use vlt_verdict::Verdict;

@@ -9,8 +9,7 @@ ghost use Rattle.vaultc_runs.specs.Shown.{shown_reply};
 use c_reader::CError;
 use cert_verify::{VerifyError, verify};
 use std::alloc::{AllocError, Global};
-use vaultc_runs::status::{DONE, REFUSED};
-use vaultc_runs::{Reply, over_limit};
+use vaultc_runs::{DONE, REFUSED, Reply, over_limit};
 
 /// A part of the verification fails, which has this number and so on.
 fn refused(alloc: Global, part: &str) -> Result<Reply, AllocError>

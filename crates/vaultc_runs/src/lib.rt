@@ -9,7 +9,7 @@ mod kept;
 mod lines;
 mod reply;
 mod runs;
-pub mod status;
+mod status;
 mod text_error;
 mod write;
 
@@ -19,5 +19,9 @@ pub use kept::Kept;
 pub use lines::{USAGE, in_file, laid_out, not_had, not_had_in, over_limit, refusal};
 pub use reply::Reply;
 pub use runs::{Caller, finish_end, run_program};
+pub use status::{
+    DONE, NO_COMMAND, NO_MEMORY, NO_PROGRAM, NO_TEXT, NOT_ACCEPTED, OUT_OF_BUDGET, OUT_OF_NUMBERS,
+    OVER_LIMIT, REFUSED, SINK_FAILED, TRAPPED, UNDEFINED, UNREAD,
+};
 pub use text_error::TextError;
 pub use write::{finish, finish_reply};

@@ -68,7 +68,7 @@ impl Target {
         Ok(())
     }
 
-    #[tactic(auto, unfolding(crate::specs::Targets::core_value, crate::specs::Targets::value_form, vlt_resolve_exprs::specs::Operands::core_operand))]
+    #[tactic(auto, unfolding(crate::specs::Targets::core_value, crate::specs::Targets::value_form, crate::specs::Operands::core_operand))]
     pub fn core_value(
         &self,
         alloc: Global,

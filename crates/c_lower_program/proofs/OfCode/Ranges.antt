@@ -6,7 +6,7 @@ use Rattle.c_lower.specs.Slots.{Sort, Numbers, Slot, past, past_all, first_numbe
 use Rattle.c_lower.specs.Lowering.{param_numbers}
 use Rattle.c_syntax.specs.C.{Stmt}
 use Rattle.c_lower.specs.Statements.{StmtCode, stmt_code}
-use Rattle.c_lower_stmts.specs.Written.{Writes}
+use Rattle.c_lower_calls.specs.Written.{Writes}
 use Rattle.c_lower_exprs.specs.Tables.{slot_view, vars_laid, AreSlots}
 use Rattle.c_lower_exprs.specs.declared.frame.Slot.{Slot as CodeSlot}
 use Rattle.c_lower_exprs.proofs.Laws.{vars_step}

@@ -12,7 +12,7 @@ use Rattle.c_lower.specs.Slots.{Numbers, past_all, vars_at, first_slot, first_te
 use Rattle.c_lower.specs.Statements.{runtime_call, runtime_value, stmt_code}
 use Rattle.c_lower.specs.Glue as g
 use Rattle.c_lower.specs.Glue.{pick_state, pick_clause, payload_number, CaseAt, payloads, case_numbers, case_keys_back, case_objects, key_slot, key_in, var_arg, question, go_out, come_back, give_back, mask, glue_code}
-use Rattle.c_lower_stmts.specs.Written.{Writes}
+use Rattle.c_lower_calls.specs.Written.{Writes}
 use Rattle.c_lower_program.specs.declared.glue.payloads.Part.TheVariants as part
 use Rattle.c_lower_program.specs.Glue.Parts.{result_clears, clause_picks, number_code, case_code, result_code, call_code, answer_code, written, glue_of}
 use Rattle.c_lower_program.proofs.OfGlue.Sums.{picked_all}

@@ -8,7 +8,7 @@ ghost use Rattle.c_lower.specs.Statements.{list_code, stmt_code};
 ghost use Rattle.c_lower.specs.Lowering.{func_with, lowered};
 ghost use Rattle.c_lower_exprs.specs.Tables.{numbers_of};
 ghost use Rattle.c_lower_exprs.specs.Scopes.{AreTables, IsScope, func_in, program_in};
-ghost use Rattle.c_lower_stmts.specs.Written.{Writes};
+ghost use Rattle.c_lower_calls.specs.Written.{Writes};
 
 use crate::code::heads::{params_of, result_of, vars_between};
 use c_lower_exprs::{ProgramTables, Scope, frame_slots};

@@ -9,8 +9,8 @@ ghost use Rattle.c_lower.specs.Statements.{runtime_call};
 ghost use Rattle.c_lower_exprs.specs.Scopes.{IsScope, func_in, program_in};
 ghost use Rattle.c_lower_program.specs.Glue.Parts.{arguments};
 
+use c_lower_calls::{call_none, call_one};
 use c_lower_exprs::{Atom, Scope};
-use c_lower_stmts::{call_none, call_one};
 use c_syntax::{CArg, CCall, CPrim, CStmt, CVar};
 use std::alloc::Global;
 use vlt_base::{Items, Memory, VarId};

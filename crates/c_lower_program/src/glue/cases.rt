@@ -13,8 +13,9 @@ ghost use Rattle.c_lower_program.specs.Glue.Parts.{case_code, cases_code, key_co
 use crate::glue::keys::{Way, move_key};
 use crate::glue::masks::{cases_mask, push_pick};
 use crate::glue::payloads::{Part, push_payload};
+use c_lower_calls::value_one;
 use c_lower_exprs::{NO_SLOT, Scope};
-use c_lower_stmts::{push_case, value_one};
+use c_lower_stmts::push_case;
 use c_syntax::{CPrim, CStmt, CVar};
 use std::alloc::Global;
 use vlt_base::{Items, KeyId, Memory, StateSet, TypeId};

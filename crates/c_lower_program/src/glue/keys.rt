@@ -12,8 +12,8 @@ ghost use Rattle.c_lower.specs.Statements.{runtime_call};
 ghost use Rattle.c_lower_exprs.specs.Scopes.{IsScope, func_in, program_in};
 ghost use Rattle.c_lower_program.specs.Glue.Parts.{keys_moved, moves, owners_out, moved_by};
 
+use c_lower_calls::call_one;
 use c_lower_exprs::{Atom, Scope};
-use c_lower_stmts::call_one;
 use c_syntax::{CPrim, CStmt, CVar};
 use std::alloc::Global;
 use vlt_base::{Items, KeyId, Memory, VarId};

@@ -9,8 +9,8 @@ ghost use Rattle.c_lower.specs.Glue.{mask};
 ghost use Rattle.c_lower_exprs.specs.Coded.{atom_of};
 ghost use Rattle.c_lower_program.specs.Glue.Picks.{picked, states_below};
 
+use c_lower_calls::call_one;
 use c_lower_exprs::Atom;
-use c_lower_stmts::call_one;
 use c_syntax::{CPrim, CStmt};
 use std::alloc::Global;
 use vlt_base::{Items, Memory, StateSet};

@@ -7,8 +7,8 @@ ghost use Rattle.c_lower.specs.Glue as g;
 ghost use Rattle.c_lower_program.specs.Glue.Parts.{is_object, number_code, plain_code, payload_code};
 
 use crate::glue::masks::{BOTH_BOOLS, push_pick};
+use c_lower_calls::{value_none, value_one, value_two};
 use c_lower_exprs::Atom;
-use c_lower_stmts::{value_none, value_one, value_two};
 use c_syntax::{CPrim, CStmt, CVar};
 use std::alloc::Global;
 use vlt_base::{Items, Memory};

@@ -15,8 +15,8 @@ ghost use Rattle.c_lower_program.specs.Glue.ManyCases.{result_cases};
 
 use crate::glue::cases::{VariantResult, first_slot, push_variant};
 use crate::glue::payloads::{Part, push_plain};
+use c_lower_calls::{gives_variant, return_atoms};
 use c_lower_exprs::{Atom, Numbers, Scope, Sort, set_atom, sorts_of};
-use c_lower_stmts::{gives_variant, return_atoms};
 use c_syntax::{CStmt, CVar};
 use std::alloc::Global;
 use vlt_base::{Items, Memory};

@@ -3,7 +3,7 @@ use Rattle.std.proofs.lemmas.List.{length-append, length-map}
 use Rattle.c_syntax.specs.View.{arg_of, program_of}
 use Rattle.c_meaning.specs.Run.{function_of}
 use Rattle.c_machine.specs.Machine.{frame_in}
-use Rattle.c_primitives.specs.Values.Shown.{value_view}
+use Rattle.c_values.specs.Shown.{value_view}
 use Rattle.c_interp.specs.declared.stop.CStop.TheVariants.{Undefined}
 use Rattle.c_interp.specs.Shown.{setup_of, state_of, tasks_of, CameTo}
 use Rattle.c_interp.proofs.Pushing.{some_world}

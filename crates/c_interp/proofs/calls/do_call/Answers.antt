@@ -5,7 +5,7 @@ use Rattle.c_meaning.specs.Primitives.{primitive_does}
 use Rattle.c_machine.specs.Machine as m
 use Rattle.c_machine.specs.Machine.{vars_in}
 use Rattle.c_primitives.specs.Shown.{Comes}
-use Rattle.c_primitives.specs.Values.Shown.{shown_vars}
+use Rattle.c_values.specs.Shown.{shown_vars}
 use Rattle.c_interp.specs.Shown.{setup_of, state_of, tasks_of, CameTo}
 use Rattle.c_interp.proofs.Setting.{vars_are, made_drop}
 use Rattle.c_interp.proofs.calls.do_call.Goals as goal

@@ -1,6 +1,6 @@
 use Rattle.std.proofs.Common.{◌≡◌, ◌-◌, ◌++◌, map, replicate, true, false, None, refl, ap, subst, sym, ◌∙◌, arith}
 use Rattle.c_meaning.specs.Run.{has_room}
-use Rattle.c_primitives.specs.Values.Shown.{value_view, AreMadeSlots}
+use Rattle.c_values.specs.Shown.{value_view, AreMadeSlots}
 use Rattle.c_interp.specs.Shown.{setup_of}
 use Rattle.c_interp.specs.Calling.{numbered_of}
 use Rattle.c_interp.proofs.Setting.{made_none}

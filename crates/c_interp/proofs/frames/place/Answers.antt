@@ -1,8 +1,8 @@
 use Rattle.std.proofs.Common.{◌+◌, length, Some, ap, sym, ◌∙◌}
 use Rattle.std.specs.Option.{option_map}
 use Rattle.c_syntax.specs.View.{func_of}
-use Rattle.c_primitives.specs.Values.Places.{place_in}
-use Rattle.c_primitives.proofs.OfValues.Finding.{in_first, in_second}
+use Rattle.c_values.specs.Places.{place_in}
+use Rattle.c_values.proofs.Finding.{in_first, in_second}
 use Rattle.c_interp.proofs.frames.place.Goals as goal
 
 pub returns-in-Some-clause-is : goal.returns-in-Some-clause-is

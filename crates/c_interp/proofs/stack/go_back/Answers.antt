@@ -1,5 +1,5 @@
 use Rattle.std.proofs.Common.{refl, subst, sym, arith}
-use Rattle.c_primitives.specs.Values.Shown.{AreMadeSlots}
+use Rattle.c_values.specs.Shown.{AreMadeSlots}
 use Rattle.c_interp.proofs.Returning.{back_is}
 use Rattle.c_interp.proofs.Setting.{made_take}
 use Rattle.c_interp.proofs.stack.go_back.Goals as goal

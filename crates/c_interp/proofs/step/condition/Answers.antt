@@ -3,7 +3,7 @@ use Rattle.std.proofs.lemmas.Int.{to_z-of_z}
 use Rattle.c_syntax.specs.View.{expr_of}
 use Rattle.c_meaning.specs.Values.{value_of}
 use Rattle.c_memory.specs.Shown.{blocks_of}
-use Rattle.c_primitives.specs.Values.Shown.{IsValue}
+use Rattle.c_values.specs.Shown.{IsValue}
 use Rattle.c_interp.proofs.Setting.{vars_are, made_drop}
 use Rattle.c_interp.proofs.StepLaws.{as_number, condition_is}
 use Rattle.c_interp.proofs.step.condition.Goals as goal

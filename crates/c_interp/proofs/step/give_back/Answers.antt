@@ -3,7 +3,7 @@ use Rattle.c_syntax.specs.View.{expr_of}
 use Rattle.c_meaning.specs.Values.{value_of}
 use Rattle.c_machine.specs.Machine as m
 use Rattle.c_memory.specs.Shown.{blocks_of}
-use Rattle.c_primitives.specs.Values.Shown.{IsValue, value_view}
+use Rattle.c_values.specs.Shown.{IsValue, value_view}
 use Rattle.c_interp.specs.Shown.{state_of, CameTo}
 use Rattle.c_interp.proofs.Setting.{vars_are, made_drop}
 use Rattle.c_interp.proofs.Plain.{plain_came}

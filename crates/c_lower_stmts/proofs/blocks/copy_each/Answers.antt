@@ -2,8 +2,8 @@ use Rattle.std.proofs.Common.{List, drop}
 use Rattle.vlt_core.specs.View as view
 use Rattle.vlt_base.specs.declared.ids.VarId.{VarId}
 use Rattle.c_lower_exprs.specs.Scopes.{func_in, program_in}
-use Rattle.c_lower_stmts.specs.Values.{payloads_copied}
-use Rattle.c_lower_stmts.proofs.Ends.{ended}
+use Rattle.c_lower_stmts.specs.Payloads.{payloads_copied}
+use Rattle.c_lower_calls.proofs.Ends.{ended}
 use Rattle.c_lower_stmts.proofs.Payloads.{no_payloads}
 use Rattle.c_lower_stmts.proofs.blocks.copy_each.Goals as goal
 

@@ -2,7 +2,7 @@ use Rattle.std.proofs.Common.{◌≡◌, ◌++◌, drop, map}
 use Rattle.vlt_core.specs.View as view
 use Rattle.c_syntax.specs.View.{stmt_of}
 use Rattle.c_lower_exprs.specs.Scopes.{func_in, program_in}
-use Rattle.c_lower_stmts.specs.Values.{payloads_copied}
+use Rattle.c_lower_stmts.specs.Payloads.{payloads_copied}
 use Rattle.c_lower_stmts.proofs.blocks.copy_each.Given as goal
 
 abbrev pub invariant-loop-position : goal.invariant-loop-position

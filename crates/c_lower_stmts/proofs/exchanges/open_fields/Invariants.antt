@@ -3,7 +3,7 @@ use Rattle.vlt_core.specs.View.{field_of, vars_of}
 use Rattle.c_syntax.specs.View.{stmt_of}
 use Rattle.c_lower.specs.Statements.{open_fields}
 use Rattle.c_lower_exprs.specs.Scopes.{func_in, program_in}
-use Rattle.c_lower_stmts.specs.Written.{owning_from}
+use Rattle.c_lower_stmts.specs.Exchanges.{owning_from}
 use Rattle.c_lower_stmts.proofs.exchanges.open_fields.Given as goal
 
 abbrev pub invariant-loop-field : goal.invariant-loop-field

@@ -2,7 +2,8 @@ use Rattle.std.proofs.Common.{List, drop, map}
 use Rattle.c_lower.specs.Statements.{open_slots}
 use Rattle.c_lower_exprs.specs.Tables.{slot_view}
 use Rattle.c_lower_exprs.specs.declared.frame.Slot.{Slot}
-use Rattle.c_lower_stmts.proofs.Ends.{ended, none_opened}
+use Rattle.c_lower_calls.proofs.Ends.{ended}
+use Rattle.c_lower_stmts.proofs.Ends.{none_opened}
 use Rattle.c_lower_stmts.proofs.exchanges.open_slots.Goals as goal
 
 pub returns-in-None : goal.returns-in-None

@@ -3,7 +3,8 @@ use Rattle.c_lower.specs.Slots.{cells_at, vars_at}
 use Rattle.c_lower.specs.Statements.{swap_slots}
 use Rattle.c_lower_exprs.specs.Tables.{numbers_of, slot_view, sort_of}
 use Rattle.c_lower_exprs.specs.declared.frame.Slot.{Slot}
-use Rattle.c_lower_stmts.proofs.Ends.{ended, no_swaps}
+use Rattle.c_lower_calls.proofs.Ends.{ended}
+use Rattle.c_lower_stmts.proofs.Ends.{no_swaps}
 use Rattle.c_lower_stmts.proofs.exchanges.swap_slots.Goals as goal
 
 pub returns-in-None : goal.returns-in-None

@@ -1,5 +1,5 @@
 use Rattle.std.proofs.Common.{subst, sym, ◌∙◌}
-use Rattle.c_primitives.specs.Values.Shown.{AreMadeSlots}
+use Rattle.c_values.specs.Shown.{AreMadeSlots}
 use Rattle.c_interp.proofs.Setting.{set_here, set_nowhere, made_set}
 use Rattle.c_interp.proofs.frames.Frames.set.Goals as goal
 

@@ -7,7 +7,7 @@ use Rattle.c_lower.specs.Slots.{Numbers}
 use Rattle.c_lower.specs.Statements.{list_code}
 use Rattle.c_lower_exprs.specs.Scopes.{func_in, program_in}
 use Rattle.c_lower_exprs.specs.Tables.{numbers_of}
-use Rattle.c_lower_stmts.specs.Written.{Writes}
+use Rattle.c_lower_calls.specs.Written.{Writes}
 use Rattle.c_lower_program.proofs.code.funcs.lower_body.Goals as goal
 
 pub returns : goal.returns

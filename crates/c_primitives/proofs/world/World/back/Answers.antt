@@ -1,6 +1,6 @@
 use Rattle.std.proofs.Common.{Err, map, sym, ◌∙◌}
 use Rattle.c_syntax.specs.View.{arg_of}
-use Rattle.c_primitives.specs.Values.Shown.{shown_vars}
+use Rattle.c_values.specs.Shown.{shown_vars}
 use Rattle.c_memory.specs.Shown.{number_of}
 use Rattle.c_primitives.specs.declared.halt.Halt.TheVariants.{Broken}
 use Rattle.c_primitives.proofs.Coming.{ready_blocks, room_blocks, same_room, reference_come, reference_breaks, while_come, while_breaks, back_come}

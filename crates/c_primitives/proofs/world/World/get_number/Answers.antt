@@ -2,7 +2,7 @@ use Rattle.std.proofs.Common.{rules, ap, SFits, w64, Err, map, sym, ◌∙◌}
 use Rattle.std.proofs.lemmas.Int.{to_z-of_z}
 use Rattle.c_meaning.specs.Primitives.{index_below}
 use Rattle.c_syntax.specs.View.{arg_of}
-use Rattle.c_primitives.specs.Values.Shown.{shown_vars}
+use Rattle.c_values.specs.Shown.{shown_vars}
 use Rattle.c_primitives.specs.declared.halt.Halt.TheVariants.{Broken}
 use Rattle.c_primitives.proofs.Coming.{same_room, number_come, number_breaks}
 use Rattle.c_primitives.proofs.Registering.{get_number_come, no_number}

@@ -6,7 +6,7 @@ use Rattle.vlt_steps.specs.declared.stop.Stop.TheVariants.{BadAnswer}
 use Rattle.c_primitives.specs.declared.world.Talk.TheVariants.{Reading}
 use Rattle.c_primitives.proofs.Coming.{same_room, none_come, none_breaks}
 use Rattle.c_primitives.proofs.Answering.{ready_reads, room_talk, answer_come, no_answer, answer_breaks}
-use Rattle.c_primitives.specs.declared.values.value.Value.TheVariants.{Number}
+use Rattle.c_values.specs.declared.value.Value.TheVariants.{Number}
 use Rattle.c_primitives.proofs.world.World.int.Goals as goal
 
 pub returns-then-not-is_none : goal.returns-then-not-is_none

@@ -1,7 +1,7 @@
 use Rattle.std.proofs.Common.{◌≡◌, Some, Ok, subst, map, sym, ◌∙◌}
 use Rattle.c_syntax.specs.View.{arg_of}
 use Rattle.c_meaning.specs.Primitives.{asked_cells, makes_asked}
-use Rattle.c_primitives.specs.declared.values.value.Value.TheVariants.{Reference}
+use Rattle.c_values.specs.declared.value.Value.TheVariants.{Reference}
 use Rattle.c_primitives.specs.Shown.{Comes}
 use Rattle.c_primitives.proofs.Coming.{ready_blocks, room_blocks, new_come}
 use Rattle.c_primitives.proofs.world.World.make.Goals as goal

@@ -3,7 +3,7 @@ use Rattle.std.proofs.lemmas.Int.{to_z-of_z}
 use Rattle.c_syntax.specs.View.{arg_of}
 use Rattle.c_primitives.proofs.Coming.{same_room, none_come, none_breaks}
 use Rattle.c_primitives.proofs.Answering.{more_come}
-use Rattle.c_primitives.specs.declared.values.value.Value.TheVariants.{Number}
+use Rattle.c_values.specs.declared.value.Value.TheVariants.{Number}
 use Rattle.c_primitives.proofs.world.World.more.Goals as goal
 
 pub returns-then-not-is_none : goal.returns-then-not-is_none

@@ -1,6 +1,6 @@
 use Rattle.std.proofs.Common.{map}
 use Rattle.c_syntax.specs.View.{arg_of}
-use Rattle.c_primitives.specs.Values.Shown.{shown_vars}
+use Rattle.c_values.specs.Shown.{shown_vars}
 use Rattle.c_memory.specs.Shown.{number_of}
 use Rattle.c_primitives.proofs.Coming.{same_room, reference_come, reference_breaks, parent_come}
 use Rattle.c_primitives.proofs.world.World.parent.Goals as goal

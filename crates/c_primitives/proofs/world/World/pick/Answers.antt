@@ -1,7 +1,7 @@
 use Rattle.std.proofs.Common.{rules, subst, SFits, w64, map}
 use Rattle.std.proofs.lemmas.Int.{to_z-of_z}
 use Rattle.c_syntax.specs.View.{arg_of}
-use Rattle.c_primitives.specs.Values.Shown.{shown_vars}
+use Rattle.c_values.specs.Shown.{shown_vars}
 use Rattle.c_meaning.specs.Primitives.{reads_answer, is_bit_of}
 use Rattle.c_primitives.specs.Shown.{Comes}
 use Rattle.c_primitives.proofs.Coming.{same_room, number_come, number_breaks}

@@ -3,7 +3,7 @@ use Rattle.std.proofs.lemmas.Int.{to_z-of_z}
 use Rattle.c_primitives.specs.declared.world.Talk.TheVariants.{Reading}
 use Rattle.c_primitives.proofs.Coming.{same_room}
 use Rattle.c_primitives.proofs.Answering.{ready_reads, room_talk, answer_come, no_answer, other_answer}
-use Rattle.c_primitives.specs.declared.values.value.Value.TheVariants.{Number}
+use Rattle.c_values.specs.declared.value.Value.TheVariants.{Number}
 use Rattle.c_meaning.specs.Primitives.{is_bit_of}
 use Rattle.c_primitives.proofs.world.World.pick_one.Goals as goal
 

@@ -3,7 +3,7 @@ use Rattle.std.proofs.lemmas.Int.{to_z-of_z}
 use Rattle.vlt_io.specs.Outside.{Grew, GrewByPart}
 use Rattle.c_syntax.specs.View.{arg_of}
 use Rattle.c_meaning.specs.World.{printed, line_of}
-use Rattle.c_primitives.specs.Values.Shown.{shown_vars}
+use Rattle.c_values.specs.Shown.{shown_vars}
 use Rattle.c_primitives.specs.declared.halt.Halt.TheVariants.{Stopped}
 use Rattle.vlt_steps.specs.declared.stop.Stop.TheVariants.{SinkFault}
 use Rattle.c_primitives.proofs.Coming.{same_room, number_come, number_breaks}

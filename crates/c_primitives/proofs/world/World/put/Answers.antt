@@ -1,6 +1,6 @@
 use Rattle.std.proofs.Common.{subst}
 use Rattle.c_syntax.specs.View.{expr_of}
-use Rattle.c_primitives.specs.Values.Shown.{shown_vars, IsReference}
+use Rattle.c_values.specs.Shown.{shown_vars, IsReference}
 use Rattle.c_meaning.specs.Values.{base_in}
 use Rattle.c_primitives.proofs.Coming.{same_room}
 use Rattle.c_primitives.proofs.Assigning.{put_come, put_value_breaks, put_base_breaks}

@@ -2,7 +2,7 @@ use Rattle.std.proofs.Common.{Some, slice_set, rules, ap, SFits, w64, Ok, Err, N
 use Rattle.std.proofs.lemmas.Int.{to_z-of_z}
 use Rattle.c_meaning.specs.Primitives.{index_below}
 use Rattle.c_syntax.specs.View.{arg_of}
-use Rattle.c_primitives.specs.Values.Shown.{shown_vars}
+use Rattle.c_values.specs.Shown.{shown_vars}
 use Rattle.c_primitives.specs.declared.halt.Halt.TheVariants.{Broken}
 use Rattle.c_primitives.proofs.Coming.{same_room, numbers_come, numbers_break}
 use Rattle.c_primitives.proofs.Registering.{put_number_come, no_put_number, ready_numbers, room_numbers}

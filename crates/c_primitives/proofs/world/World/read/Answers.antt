@@ -5,7 +5,7 @@ use Rattle.c_primitives.specs.declared.halt.Halt.TheVariants.{Stopped}
 use Rattle.vlt_steps.specs.declared.stop.Stop.TheVariants.{InputEnd}
 use Rattle.c_primitives.proofs.Coming.{same_room, none_come, none_breaks}
 use Rattle.c_primitives.proofs.Answering.{ready_input, room_input, read_come, no_input}
-use Rattle.c_primitives.specs.declared.values.value.Value.TheVariants.{Number}
+use Rattle.c_values.specs.declared.value.Value.TheVariants.{Number}
 use Rattle.c_primitives.proofs.world.World.read.Goals as goal
 
 pub returns-then-not-is_none : goal.returns-then-not-is_none

@@ -1,5 +1,5 @@
 use Rattle.c_syntax.specs.View.{expr_of}
-use Rattle.c_primitives.specs.Values.Shown.{shown_vars}
+use Rattle.c_values.specs.Shown.{shown_vars}
 use Rattle.c_primitives.proofs.Coming.{same_room}
 use Rattle.c_primitives.proofs.Assigning.{set_come, set_breaks}
 use Rattle.c_primitives.proofs.world.World.set.Goals as goal

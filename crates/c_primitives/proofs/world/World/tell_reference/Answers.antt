@@ -1,6 +1,6 @@
 use Rattle.std.proofs.Common.{◌+◌, Ok, Err, Some, None, map, ap, sym, ◌∙◌, refl, arith}
 use Rattle.c_syntax.specs.View.{arg_of}
-use Rattle.c_primitives.specs.Values.Shown.{shown_vars}
+use Rattle.c_values.specs.Shown.{shown_vars}
 use Rattle.c_primitives.specs.declared.halt.Halt.TheVariants.{Broken}
 use Rattle.c_primitives.specs.declared.world.Talk.TheVariants.{Calling}
 use Rattle.c_primitives.proofs.Coming.{same_room, reference_come, reference_breaks}

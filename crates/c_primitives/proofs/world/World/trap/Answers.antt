@@ -1,6 +1,6 @@
 use Rattle.std.proofs.Common.{rules, ap, SFits, w64, Err, map, ◌∙◌}
 use Rattle.c_syntax.specs.View.{arg_of}
-use Rattle.c_primitives.specs.Values.Shown.{shown_vars}
+use Rattle.c_values.specs.Shown.{shown_vars}
 use Rattle.std.proofs.lemmas.Int.{to_z-of_z}
 use Rattle.c_primitives.specs.Done.{halt_of_trap}
 use Rattle.c_primitives.proofs.Coming.{same_room, number_come, number_breaks, trap_come}

@@ -4,7 +4,7 @@ use Rattle.c_syntax.specs.declared.program.CCell.TheVariants as cell
 use Rattle.c_meaning.specs.Blocks.{write_number, write_reference}
 use Rattle.c_meaning.specs.Primitives.{write_effect}
 use Rattle.c_memory.specs.Shown.{number_of, blocks_of, Did}
-use Rattle.c_primitives.specs.Values.Shown.{value_view, IsMadeValue}
+use Rattle.c_values.specs.Shown.{value_view, IsMadeValue}
 use Rattle.c_primitives.specs.Shown.{Comes}
 use Rattle.c_primitives.proofs.Coming.{ready_blocks, room_blocks, blocks_come}
 use Rattle.c_primitives.proofs.world.World.write.Goals as goal
