@@ -1,12 +1,11 @@
--- The tables of the code: what modules give, and what of it the interface still wants. They serve private clauses alone.
-use Rattle.std.specs.Prelude.{◌≡◌, ℕ, Bool, false, not, ◌&&◌, if◌then◌else◌, List, [], ◌∷◌, map, Option, None, Some, option_map, unwrap_or, Result}
+-- The tables of the code: what modules give, and what of it the interface still wants. What the calls promise cites none of it.
+use Rattle.std.specs.Prelude.{◌≡◌, ℕ, Bool, false, not, ◌&&◌, if◌then◌else◌, List, [], ◌∷◌, Option, None, Some, option_map, unwrap_or}
 use Rattle.std.specs.Borrow.{Bor}
 use Rattle.std.specs.List.{find}
 use Rattle.std.specs.Map.{lookup}
 use Rattle.std.specs.Str.{bytes_eq}
 use Rattle.vlt_syntax.specs.Tree as s
 use Rattle.vlt_syntax.specs.declared.tree.Decl.{Decl}
-use Rattle.vlt_syntax_copies.specs.Raised.{raised}
 use Rattle.vlt_syntax_copies.specs.Shifted.{shifted}
 use Rattle.vlt_kinds_types.specs.declared.names.found.Refusal.{Refusal}
 use Rattle.vlt_iface.specs.declared.keys.Key.{Key as Seen}
@@ -14,10 +13,9 @@ use Rattle.vlt_iface.specs.declared.keys.Key.TheVariants as seen
 use Rattle.vlt_iface.specs.declared.given.Given.{Given}
 use Rattle.vlt_iface.specs.declared.wanted.Wanted.{Wanted}
 use Rattle.vlt_iface.specs.declared.places.TheConstants.{RAISE}
-use Rattle.vlt_iface.specs.View.{gives, view_decls}
+use Rattle.vlt_iface.specs.View.{gives}
 use Rattle.vlt_iface.specs.Rules.{given_refused_by}
-use Rattle.vlt_iface.specs.Told.{Told, when_few}
-use Rattle.vlt_iface.specs.Seen.{decl_seen, decls_seen, tree_with}
+use Rattle.vlt_iface.specs.Seen.{decl_seen, decls_seen}
 use Rattle.vlt_iface.specs.Texts.{texts_seen, has_text}
 
 -- ---- what a declaration gives or wants: a struct or a function of a name
@@ -98,8 +96,3 @@ others_by wanted [] = []
 others_by wanted (d ∷ ds) =
     let left : Key → Bool = λ k. wanted k && not (same_key (given_key d) k) in
     if wanted (given_key d) then others_by left ds else d ∷ others_by left ds
-
--- ---- the tree with these declarations of modules, or the limit on declarations
-
-abbrev pub joined_of : s.Tree → List s.Decl → Result s.Tree Told
-joined_of i ms = when_few (view_decls i.decls (map (raised RAISE) ms)) (tree_with (view_decls i.decls (map (raised RAISE) ms)))
