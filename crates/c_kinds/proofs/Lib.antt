@@ -4,5 +4,5 @@ pub mod Before
 pub mod Turns
 pub mod Declared
 pub mod Main
-pub mod Order
+pub mod Ordered
 pub mod Within

@@ -10,8 +10,8 @@ use std::env;
 use std::io::{self, ErrorKind};
 use std::process::ExitCode;
 use std::rt::{Env, Files};
+use vaultc_core::status::{NO_COMMAND, NO_MEMORY, SINK_FAILED};
 use vaultc_core::vaultc;
-use vaultc_runs::{NO_COMMAND, NO_MEMORY, SINK_FAILED};
 use vlt_io::{DirStore, Logged, OutSink};
 
 /// The words after the program's name.

@@ -1,4 +1,4 @@
 pub mod Searched
-pub mod Links
+pub mod Linking
 pub mod Verifies
 pub mod Compiles

@@ -106,7 +106,7 @@ fn joined_with<'a>(
 ///
 /// `Clash` with the least name in the order of bytes that one module declares and the other declares or binds. Else `Limit`
 /// where the joined tree has more declarations than a tree may have. `Memory` where there is too little.
-#[tactic(auto, using(vlt_iface_views::proofs::Whole::clash_told))]
+#[tactic(auto, using(crate::proofs::Whole::clash_told))]
 pub fn join_modules(
     alloc: Global,
     interface: &Tree,

@@ -6,7 +6,7 @@ use Rattle.vaultc_core.proofs.Compiles.{Laws, compiled}
 use Rattle.vaultc_core.proofs.Verifies.{verified}
 use Rattle.vaultc_replies.proofs.Hosts.{GoRightForHosts, hosted}
 use Rattle.vaultc_replies.proofs.Linked.{LinkLaws}
-use Rattle.vaultc_core.proofs.Links.{linked}
+use Rattle.vaultc_core.proofs.Linking.{linked}
 use Rattle.vaultc_replies.proofs.Told.{told, memory, complete, no_fault, usage, unread_told}
 use Rattle.vaultc_core.proofs.vaultc.Goals as goal
 

@@ -4,7 +4,7 @@ use Rattle.std.specs.Option.{is_some}
 use Rattle.std.proofs.Math.ListN.{get_or}
 use Rattle.std.proofs.lemmas.Grind.{common_steps}
 use Rattle.c_syntax.specs.Kinds as k
-use Rattle.c_kinds.proofs.Order.{head_found, read_at}
+use Rattle.c_kinds.proofs.Ordered.{head_found, read_at}
 use Rattle.c_kinds.proofs.heads.head_at.Goals as goal
 
 pub returns-in-Some : goal.returns-in-Some

@@ -2,7 +2,7 @@ use Rattle.std.proofs.Common.{◌≡◌, ◌∙◌, ap, subst, sym, slice_get, S
 use Rattle.std.specs.Prelude.{IfSome}
 use Rattle.std.specs.Option.{is_some}
 use Rattle.std.proofs.Math.ListN.{get_or}
-use Rattle.c_kinds.proofs.Order.{head_at_is, read_at}
+use Rattle.c_kinds.proofs.Ordered.{head_at_is, read_at}
 use Rattle.c_kinds.proofs.heads.is_head_at.Goals as goal
 
 pub returns-in-Some : goal.returns-in-Some

@@ -2,7 +2,7 @@ use Rattle.std.proofs.Common.{◌∙◌, ap, sym, map, not, take}
 use Rattle.std.proofs.lemmas.List.{get_or_default}
 use Rattle.c_syntax.specs.Kinds as k
 use Rattle.c_parser.specs.View.{head_of}
-use Rattle.c_kinds.proofs.Order.{head_is_new}
+use Rattle.c_kinds.proofs.Ordered.{head_is_new}
 use Rattle.c_kinds.proofs.heads.is_new_head.Goals as goal
 
 pub returns-then-in_order : goal.returns-then-in_order

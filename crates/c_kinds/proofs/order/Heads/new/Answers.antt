@@ -1,6 +1,6 @@
 use Rattle.std.proofs.Common.{map}
 use Rattle.c_parser.specs.View.{head_of}
-use Rattle.c_kinds.proofs.Order.{said_so}
+use Rattle.c_kinds.proofs.Ordered.{said_so}
 use Rattle.c_kinds.proofs.order.Heads.new.Goals as goal
 
 pub invariant_of-result : goal.invariant_of-result

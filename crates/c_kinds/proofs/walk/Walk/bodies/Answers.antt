@@ -2,7 +2,7 @@ use Rattle.std.proofs.Common.{◌∙◌, map}
 use Rattle.c_parser.specs.View.{body_of, head_of}
 use Rattle.c_kinds.specs.View.{walk_of}
 use Rattle.c_syntax.specs.Kinds.{heads_of}
-use Rattle.c_kinds.proofs.Order.{said_so}
+use Rattle.c_kinds.proofs.Ordered.{said_so}
 use Rattle.c_kinds.proofs.Turns.{bodies_turn}
 use Rattle.c_kinds.proofs.walk.Walk.bodies.Goals as goal
 
