@@ -1,6 +1,6 @@
 //! A C program and budgets in; a machine, which runs it once over input and answers and writes its events, out.
 //! Read `c_meaning/specs/Run.antt` first, then `specs/Machine.antt` and `specs/Halting.antt`; `runs` reads the C text and the files.
-//! Used by: `vaultc_core`.
+//! Used by: `vaultc_runs`.
 #![tactic(auto)]
 
 mod calls;

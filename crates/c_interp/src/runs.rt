@@ -1,6 +1,6 @@
 //! The bytes of a C file and of files of numbers, and budgets in; how the run of the program ends out, its events going to a sink.
 //! Read `specs/Runs/Ends.antt` (EndsAs) first.
-//! Used by: the command `crun` of `vaultc_core`.
+//! Used by: the command `crun` (`vaultc_runs::c_runs`).
 
 ghost use Rattle.std.specs.Prelude.{◌<◌, ◌-◌, ◌^◌, length};
 ghost use Rattle.c_interp.specs.Runs.Ends.{EndsAs};

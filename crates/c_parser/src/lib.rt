@@ -1,6 +1,6 @@
 //! C texts in, the text as it is written out, with the places of its tokens.
 //! Read `c_syntax/specs/Reading.antt` (IsUnitOf) first.
-//! Used by: `c_reader::kinds`, which judges the names and types of a C text.
+//! Used by: `c_kinds`, which judges the names and types of a C text.
 #![tactic(auto)]
 
 ghost use Rattle.std.specs.Prelude.{◌≡◌, ◌<◌, ◌-◌, ◌^◌, length, IfErr, IfOk};

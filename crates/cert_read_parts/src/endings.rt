@@ -16,6 +16,7 @@ pub enum Ending {
     Unsure,
 }
 
+/// Whether a statement ends that takes one of two blocks, which end so.
 pub fn both(a: Ending, b: Ending) -> Ending
     ensures { ending_of result ≡ both (ending_of a) (ending_of b) }
 {
@@ -39,6 +40,7 @@ fn agrees(ends: Ending, maps: &Option<Items<TokMap>>) -> bool
     }
 }
 
+/// The first wrong row of two parts: that of the first part where it has one.
 pub fn or_else(a: Option<usize>, b: Option<usize>) -> Option<usize>
     ensures { result ≡ or_else a b }
 {
@@ -48,6 +50,7 @@ pub fn or_else(a: Option<usize>, b: Option<usize>) -> Option<usize>
     }
 }
 
+/// The first wrong row of a statement at row `at`: itself, if its maps don't fit how it `ends`, or else the one `inside` it.
 pub fn at_odds(
     ends: Ending,
     maps: &Option<Items<TokMap>>,

@@ -20,6 +20,11 @@ fn pass_row(held: &mut Held, row: Row) -> Result<(), Halt>
     Ok(())
 }
 
+/// Takes `held` through `rows`, in their order.
+///
+/// # Errors
+///
+/// `Halt::Refused` at the first row whose token isn't as the row wants it, `Halt::Memory` when memory is out.
 pub fn pass_rows(held: &mut Held, rows: &[Row]) -> Result<(), Halt>
     ensures ok { OnOk result (Passes (rows_view rows.now) (map_of held.old) (map_of held.new)) }
     ensures refused { IfHalted result (CanPass (rows_view rows.now) (map_of held.old) → ⊥) }
@@ -30,6 +35,11 @@ pub fn pass_rows(held: &mut Held, rows: &[Row]) -> Result<(), Halt>
     Ok(())
 }
 
+/// Takes `held` through the end of a scope in which `toks` were declared, none of which may be held.
+///
+/// # Errors
+///
+/// `Halt::Refused` if one of them is held, `Halt::Memory` when memory is out.
 pub fn pass_gone(held: &mut Held, toks: &[Tok]) -> Result<(), Halt>
     ensures ok { OnOk result (Passes (map away_row (toks_of toks.now)) (map_of held.old)
         (map_of held.new)) }
