@@ -6,12 +6,12 @@ use Rattle.vlt_core.specs.Derives.{IsAccepted}
 use Rattle.vlt_kinds_types.specs.declared.names.found.Refusal.{Refusal}
 use Rattle.vlt_kinds_types.specs.Kinds.{Kinds}
 use Rattle.vlt_kinds.specs.Tables.{kinds_of, kinds_told}
-use Rattle.vlt_resolve.specs.Elaboration.{Told, broken, elaborated}
-use Rattle.vlt_resolve.specs.Programs.{with_kinds}
+use Rattle.vlt_elaboration.specs.Elaboration.{Told, broken, elaborated}
+use Rattle.vlt_elaboration.specs.Programs.{with_kinds}
 use Rattle.vlt_resolve_laws.specs.Elaborated.{IsElaborated}
 use Rattle.vlt_resolve_laws.proofs.Made.{told}
 use Rattle.vlt_resolve_laws.proofs.Whole.{Facts, facts_of}
-use Rattle.vlt_verdict.specs.FitLaws.Fit.{IsTextTree, ProgramsAreFit}
+use Rattle.vlt_fit_laws.specs.Fit.{IsTextTree, ProgramsAreFit}
 use Rattle.c_lower_accepted.specs.Accepted.{IsAcceptedProgram}
 use Rattle.c_lower_accepted.specs.Texts.{IsAcceptedTree, TreesRunAlike, TreesAreDefined}
 use Rattle.c_lower_accepted.proofs.Accepted.{accepted_alike, accepted_defined}

@@ -3,8 +3,8 @@ use Rattle.std.specs.Prelude.{◌≡◌, Ok}
 use Rattle.vlt_syntax.specs.Tree.{Tree}
 use Rattle.vlt_core.specs.Core.{Program}
 use Rattle.vlt_core.specs.Derives.{IsAccepted}
-use Rattle.vlt_resolve.specs.Programs.{program_told}
-use Rattle.vlt_verdict.specs.FitLaws.Fit.{IsTextTree}
+use Rattle.vlt_elaboration.specs.Programs.{program_told}
+use Rattle.vlt_fit_laws.specs.Fit.{IsTextTree}
 use Rattle.c_lower_accepted.specs.Accepted.{RunsAlike, IsDefined}
 
 -- The program is that of a tree as texts have them, and is accepted.

@@ -6,7 +6,7 @@
 ghost use Rattle.c_lower_accepted.specs.Accepted.{AcceptedRunAlike, AcceptedAreDefined};
 ghost use Rattle.c_lower_accepted.specs.Texts.{TreesRunAlike, TreesAreDefined};
 
-use vlt_verdict::programs_are_fit;
+use vlt_fit_laws::programs_are_fit;
 
 /// A run of an accepted program and that of its C program have the same outcome, event text and fuel left, and the second
 /// breaks no rule of C.

@@ -5,12 +5,12 @@ use Rattle.vlt_core.specs.Core.{Program}
 use Rattle.vlt_kinds_types.specs.declared.names.found.Refusal.{Refusal}
 use Rattle.vlt_kinds_types.specs.Kinds.{Kinds}
 use Rattle.vlt_kinds.specs.Tables.{kinds_of, kinds_told}
-use Rattle.vlt_resolve.specs.Elaboration.{Told, broken, elaborated}
-use Rattle.vlt_resolve.specs.Programs.{with_kinds, program_told}
+use Rattle.vlt_elaboration.specs.Elaboration.{Told, broken, elaborated}
+use Rattle.vlt_elaboration.specs.Programs.{with_kinds, program_told}
 use Rattle.vlt_resolve_laws.specs.Elaborated.{IsElaborated}
 use Rattle.vlt_resolve_laws.proofs.Made.{told}
 use Rattle.vlt_resolve_laws.proofs.Whole.{Facts, facts_of}
-use Rattle.vlt_verdict.specs.FitLaws.Fit.{ProgramsAreFit}
+use Rattle.vlt_fit_laws.specs.Fit.{ProgramsAreFit}
 use Rattle.c_reader_laws.specs.PrinterLaws.ReadAgain.{AreReadAgain}
 use Rattle.c_lower.specs.Lowering.{lowered}
 use Rattle.c_lower_runs.specs.Texts.Laws.{AreCPrograms}

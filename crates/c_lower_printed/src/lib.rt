@@ -7,7 +7,7 @@ ghost use Rattle.c_lower_printed.specs.Laws.{TextsArePrintable, AcceptedTextsAre
 
 use c_lower_runs::lowered_programs_are_c_programs;
 use c_reader_laws::canonical_texts_are_read_again;
-use vlt_verdict::programs_are_fit;
+use vlt_fit_laws::programs_are_fit;
 
 /// The program of an accepted text has what its C text is written of, where that text is no longer than a C file may be.
 pub fn texts_are_printable()

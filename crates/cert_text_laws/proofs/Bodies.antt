@@ -14,12 +14,12 @@ use Rattle.vlt_kinds_types.specs.Names.Refusals.{least_from}
 use Rattle.vlt_kinds_types.specs.Kinds.{Kinds}
 use Rattle.vlt_resolve_exprs.specs.Scopes.{Scope, var_ty, scope_inside, scope_after}
 use Rattle.vlt_resolve_exprs.specs.Exprs.{wanted_refused, core_expr, var_number}
-use Rattle.vlt_resolve_stmts.specs.Around.{Around, inside_loop, inside_focus}
-use Rattle.vlt_resolve_stmts.specs.Statements.{simple_refused, simple_became}
-use Rattle.vlt_resolve_parts.specs.Switches.{arm_names, switch_refused, arm_case, arm_refused, arm_scope, arm_numbers, case_number, focus_refused, bound_scope}
-use Rattle.vlt_resolve.specs.Walk.Blocks.{block_ends, closing, else_closing, ends, stmt_place}
-use Rattle.vlt_resolve.specs.Walk.Walk.{late, placed_at, block_made, walk_stmts, walk_stmt, walk_block, walk_else, walk_arms, walk_arm, walk_simple}
-use Rattle.vlt_resolve.specs.Elaboration.{last_return}
+use Rattle.vlt_elaboration.specs.Around.{Around, inside_loop, inside_focus}
+use Rattle.vlt_elaboration.specs.Statements.{simple_refused, simple_became}
+use Rattle.vlt_elaboration.specs.Switches.{arm_names, switch_refused, arm_case, arm_refused, arm_scope, arm_numbers, case_number, focus_refused, bound_scope}
+use Rattle.vlt_elaboration.specs.Blocks.{block_ends, closing, else_closing, ends, stmt_place}
+use Rattle.vlt_elaboration.specs.Walk.{late, placed_at, block_made, walk_stmts, walk_stmt, walk_block, walk_else, walk_arms, walk_arm, walk_simple}
+use Rattle.vlt_elaboration.specs.Elaboration.{last_return}
 use Rattle.vlt_resolve_laws.proofs.Results.{same_ok, then_ok, unless_ok}
 use Rattle.cert_fit_laws.specs.Limits.{most_statements, IsLimited, IsLimitedBlock, AreLimited, AreLimitedArms}
 use Rattle.cert_rows.specs.Parts.{All}

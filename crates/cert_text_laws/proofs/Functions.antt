@@ -4,7 +4,7 @@ use Rattle.std.specs.List.{list_all}
 use Rattle.std.specs.Char.{is_ascii}
 use Rattle.std.proofs.lemmas.Bool.{not-false}
 use Rattle.std.proofs.lemmas.List.{length-append}
-use Rattle.vlt_lexer.specs.declared.token.Mark.TheVariants as mark
+use Rattle.vlt_tokens.specs.declared.token.Mark.TheVariants as mark
 use Rattle.vlt_syntax.specs.Tokens.{sign}
 use Rattle.vlt_syntax.specs.Tree as s
 use Rattle.vlt_syntax.specs.Tree.{States, Entry, Block, Head, Decl}
@@ -22,9 +22,9 @@ use Rattle.vlt_kinds_heads.specs.Keys.{Keys, facts_of, keys_of}
 use Rattle.vlt_kinds_heads.specs.Phase.{states_named, typed_states, core_entry_in, core_entry, core_head, core_heads_in}
 use Rattle.vlt_kinds_types.specs.Kinds.{Kinds}
 use Rattle.vlt_resolve_laws.proofs.OfKindsLaws.Empty.{no_left, no_right, not_broken}
-use Rattle.vlt_resolve.specs.Walk.Walk.{then_do, walk_stmts}
-use Rattle.vlt_resolve.specs.Elaboration as elab
-use Rattle.vlt_resolve.specs.Elaboration.{body_scope, body_around, stmts_in, end_refused, last_return, func_made, walk_body, is_function, walk_function, walk_decls, is_main}
+use Rattle.vlt_elaboration.specs.Walk.{then_do, walk_stmts}
+use Rattle.vlt_elaboration.specs.Elaboration as elab
+use Rattle.vlt_elaboration.specs.Elaboration.{body_scope, body_around, stmts_in, end_refused, last_return, func_made, walk_body, is_function, walk_function, walk_decls, is_main}
 use Rattle.vlt_resolve_laws.proofs.Results.{same_ok, then_ok, unless_ok}
 use Rattle.cert_rows.specs.Rows.{is_c_name}
 use Rattle.cert_fit_laws.specs.Limits.{IsRuled, IsRuledEntry, most_statements, AreLimited}

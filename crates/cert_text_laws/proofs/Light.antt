@@ -1,6 +1,6 @@
 -- A statement without blocks becomes statements that weigh no more than three for each of its tokens.
 use Rattle.std.proofs.Common.{◌≤◌, ◌+◌, ◌*◌, ℕ, suc, Bool, true, false, if◌then◌else◌, List, [], ◌∷◌, length, Option, Some, None, arith}
-use Rattle.vlt_lexer.specs.declared.token.Mark.TheVariants as mark
+use Rattle.vlt_tokens.specs.declared.token.Mark.TheVariants as mark
 use Rattle.vlt_syntax.specs.Tokens.{Token, sign}
 use Rattle.vlt_syntax.specs.Tree as s
 use Rattle.vlt_syntax.specs.Tree.{Name, Right, Stmt}
@@ -18,10 +18,10 @@ use Rattle.vlt_resolve_calls.specs.Builds.{Case, case_form, case_of_tick, core_b
 use Rattle.vlt_resolve_calls.specs.Calls.{Use, dropped, given, param_types, head_form, callee_form, core_call}
 use Rattle.vlt_resolve_rights.specs.News.{made_operands, made_forms, new_forms}
 use Rattle.vlt_resolve_rights.specs.Adopts.{core_adopt}
-use Rattle.vlt_resolve_stmts.specs.Rights.{right_forms}
-use Rattle.vlt_resolve_stmts.specs.Around.{Around}
-use Rattle.vlt_resolve_stmts.specs.Declarations.{declare_became, keyed_became, hidden_became, declared_became, assign_became}
-use Rattle.vlt_resolve_stmts.specs.Statements.{core_put, release_form, core_become, core_swap, opened_parts, opened_became, open_became, hidden_operand, returned_value, returned_build, return_became, simple_became}
+use Rattle.vlt_elaboration.specs.Rights.{right_forms}
+use Rattle.vlt_elaboration.specs.Around.{Around}
+use Rattle.vlt_elaboration.specs.Declarations.{declare_became, keyed_became, hidden_became, declared_became, assign_became}
+use Rattle.vlt_elaboration.specs.Statements.{core_put, release_form, core_become, core_swap, opened_parts, opened_became, open_became, hidden_operand, returned_value, returned_build, return_became, simple_became}
 use Rattle.cert_text_laws.specs.Weights.{reads, in_operand, in_operands, in_simple, weight}
 use Rattle.cert_text_laws.proofs.Shorter.{more, same, after_named, after_ty, after_expr, after_build, after_owner, after_right, past_stmt}
 use Rattle.cert_text_laws.proofs.Loads.{Fits, nothing, wider, closed, counted, far, less, past_expr, expr_fits, for_fits, operand_fits, listed_fits, enclosed_fits, inits_fit, names_listed, several_few}

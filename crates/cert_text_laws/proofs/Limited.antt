@@ -9,7 +9,7 @@ use Rattle.vlt_kinds_types.specs.Names.Globals.{globals_of}
 use Rattle.vlt_kinds_types.specs.Files.{file_of}
 use Rattle.vlt_kinds_types.specs.Kinds.{Kinds}
 use Rattle.vlt_kinds.specs.Tables.{kinds_of}
-use Rattle.vlt_resolve.specs.Elaboration.{is_main, elaborated}
+use Rattle.vlt_elaboration.specs.Elaboration.{is_main, elaborated}
 use Rattle.vlt_resolve_laws.specs.Elaborated.{IsElaborated}
 use Rattle.vlt_resolve_laws.proofs.Made.{told, all_walked}
 use Rattle.vlt_resolve_laws.proofs.Whole.{fine_of}

@@ -11,7 +11,7 @@ use Rattle.vlt_kinds_types.specs.Names.Refusals.{of_each}
 use Rattle.vlt_kinds_types.specs.Files.{File}
 use Rattle.vlt_kinds_heads.specs.Phase.{core_heads_in}
 use Rattle.vlt_resolve_laws.proofs.OfKindsLaws.Empty.{no_left, not_broken}
-use Rattle.vlt_resolve.specs.Elaboration.{is_main, main_of}
+use Rattle.vlt_elaboration.specs.Elaboration.{is_main, main_of}
 use Rattle.vlt_resolve_laws.proofs.Whole.{some_main}
 use Rattle.cert_format.specs.Certificate as cert
 use Rattle.cert_format.specs.Certificate.{main_from}

@@ -1,6 +1,6 @@
 -- The tokens after a part are no more than those from its start on.
 use Rattle.std.proofs.Common.{◌≤◌, ℕ, suc, List, [], ◌∷◌, length, Some, None, arith}
-use Rattle.vlt_lexer.specs.declared.token.Mark.{Mark}
+use Rattle.vlt_tokens.specs.declared.token.Mark.{Mark}
 use Rattle.vlt_syntax.specs.Tokens.{Token}
 use Rattle.vlt_syntax.specs.Tree as s
 use Rattle.vlt_syntax.specs.Tree.{Stmt, Block, If}

@@ -12,10 +12,10 @@ use Rattle.vlt_resolve_calls.specs.Builds.{Case, case_form, case_of_tick, core_b
 use Rattle.vlt_resolve_calls.specs.Calls.{Use, dropped, given, head_form, callee_form, core_call}
 use Rattle.vlt_resolve_rights.specs.News.{made_operands, made_forms, new_forms}
 use Rattle.vlt_resolve_rights.specs.Adopts.{core_adopt}
-use Rattle.vlt_resolve_stmts.specs.Rights.{right_forms}
-use Rattle.vlt_resolve_stmts.specs.Around.{Around}
-use Rattle.vlt_resolve_stmts.specs.Declarations.{declare_became, keyed_became, hidden_became, declared_became, assign_became}
-use Rattle.vlt_resolve_stmts.specs.Statements.{core_put, release_form, core_become, core_swap, opened_parts, opened_became, open_became, returned_value, returned_build, return_became, simple_became}
+use Rattle.vlt_elaboration.specs.Rights.{right_forms}
+use Rattle.vlt_elaboration.specs.Around.{Around}
+use Rattle.vlt_elaboration.specs.Declarations.{declare_became, keyed_became, hidden_became, declared_became, assign_became}
+use Rattle.vlt_elaboration.specs.Statements.{core_put, release_form, core_become, core_swap, opened_parts, opened_became, open_became, returned_value, returned_build, return_became, simple_became}
 use Rattle.cert_rows.specs.Parts.{All}
 use Rattle.cert_fit_laws.specs.Limits.{IsLimited}
 

@@ -3,7 +3,7 @@ use Rattle.std.specs.Prelude.{Bool, List}
 use Rattle.vlt_core.specs.Kinded.{IsKinded}
 use Rattle.vlt_core.specs.View.{program_of}
 use Rattle.vlt_core.specs.declared.program.Program.{Program}
-use Rattle.vlt_verdict.specs.FitLaws.Fit.{IsFitProgram}
+use Rattle.vlt_fit_laws.specs.Fit.{IsFitProgram}
 use Rattle.c_lower_accepted.specs.Accepted.{IsAcceptedProgram, RunsAlike, IsDefined}
 use Rattle.cert_format.specs.Notes.{Note}
 use Rattle.cert_format.specs.Certificate.{FitsCertificate}

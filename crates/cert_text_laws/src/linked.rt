@@ -4,9 +4,9 @@
 
 ghost use Rattle.cert_text_laws.specs.Linked.Link.{JoinedProgramsAreOfTexts};
 
+use vlt_fit_laws::texts_have_text_trees;
 use vlt_iface::told_joins_are_joined;
 use vlt_link_laws::told_joins_are_text_trees;
-use vlt_verdict::texts_have_text_trees;
 
 /// The program of the joined tree that is told of an interface with two modules, each the tree of a text, is one of texts.
 pub fn joined_programs_are_of_texts()

@@ -5,8 +5,8 @@ use Rattle.std.proofs.lemmas.List.{append_assoc}
 use Rattle.serde_json.specs.Written.{compact_text}
 use Rattle.vlt_core.specs.Core.{Func, Program}
 use Rattle.vlt_core.specs.Derives.{IsAccepted}
-use Rattle.vlt_resolve.specs.Programs.{with_kinds}
-use Rattle.vlt_verdict.specs.FitLaws.Fit.{IsTextTree}
+use Rattle.vlt_elaboration.specs.Programs.{with_kinds}
+use Rattle.vlt_fit_laws.specs.Fit.{IsTextTree}
 use Rattle.c_syntax.specs.Canonical.{canonical_text}
 use Rattle.c_syntax.specs.Reading.{IsCProgramOf}
 use Rattle.c_syntax.specs.Text.{mark}

@@ -6,7 +6,7 @@ use Rattle.vlt_core.specs.View.{program_of}
 use Rattle.vlt_core.specs.declared.program.Program.{Program as CodeProgram}
 use Rattle.vlt_core_laws.proofs.Headed.{kinded_parts}
 use Rattle.vlt_core_laws.proofs.Unbroken.{some_not_none}
-use Rattle.vlt_verdict.specs.FitLaws.Fit.{IsFitProgram}
+use Rattle.vlt_fit_laws.specs.Fit.{IsFitProgram}
 use Rattle.cert_rows.specs.Rows.{is_filled}
 use Rattle.cert_fit_laws.specs.Formed.{IsFormed}
 use Rattle.cert_fit_laws.specs.Limits.{IsLimitedSet, IsLimitedCase, IsLimitedType, IsLimitedFunc, IsLimitedProgram}

@@ -7,7 +7,7 @@ use Rattle.vlt_core.specs.Core.{States, Ty, owning, VarDecl, FieldDecl, CaseDecl
 use Rattle.vlt_core.specs.Lookups.{owning_states_in, release_in, fields_in, cases_in}
 use Rattle.vlt_kinds_types.specs.Kinds.{Kinds}
 use Rattle.vlt_resolve_exprs.specs.Scopes.{Scope}
-use Rattle.vlt_resolve.specs.Elaboration.{body_scope, body_around, stmts_in}
+use Rattle.vlt_elaboration.specs.Elaboration.{body_scope, body_around, stmts_in}
 use Rattle.vlt_resolve_laws.specs.Elaborated.{IsElaborated}
 use Rattle.vlt_resolve_laws.specs.Made.{head_made, IsMade}
 use Rattle.vlt_resolve_laws.specs.Narrow.{IsMask, HasMasks}

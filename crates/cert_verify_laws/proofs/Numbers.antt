@@ -13,8 +13,8 @@ use Rattle.vlt_core_laws.proofs.Headed.{function_empty, head_empty, each_at, ran
 use Rattle.vlt_core_laws.proofs.Unbroken.{EachEmpty}
 use Rattle.vlt_faults.specs.Judge.Extents.{last_key, last_var}
 use Rattle.vlt_faults.specs.Judge.Faulty.{HasNoNumber, many_statements, many_spots, names_last_key, names_last_var}
-use Rattle.vlt_verdict.specs.FitLaws.Unfit.{IsStillUnfit, HasUnfitBody}
-use Rattle.vlt_verdict.specs.FitLaws.Unfit as check
+use Rattle.vlt_fit_laws.specs.Unfit.{IsStillUnfit, HasUnfitBody}
+use Rattle.vlt_fit_laws.specs.Unfit as check
 use Rattle.vlt_witness.specs.Unfit as search
 use Rattle.cert_fit_laws.specs.Formed.{IsFormed}
 use Rattle.cert_fit_laws.specs.Limits.{IsLimitedProgram}

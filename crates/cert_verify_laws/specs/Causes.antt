@@ -7,7 +7,7 @@ use Rattle.vlt_core.specs.Bodies.{body_flow}
 use Rattle.vlt_rows.specs.Unfit.{HasNoFlow}
 use Rattle.vlt_flow_maps.specs.Unfit.{HasNoStart}
 use Rattle.vlt_faults.specs.Judge.Faulty.{HasNoNumber}
-use Rattle.vlt_verdict.specs.FitLaws.Unfit.{HasUnfitBody}
+use Rattle.vlt_fit_laws.specs.Unfit.{HasUnfitBody}
 use Rattle.vlt_witness.specs.Unfit.{IsUnfit}
 use Rattle.cert_values.specs.Declarations.Names.{HasTextNames}
 use Rattle.cert_text_laws.specs.Texts.{IsProgramOfTexts}

@@ -13,8 +13,8 @@ use cert_least_laws::accepted_bodies_have_notes;
 use cert_text_laws::{
     texts_are_light, texts_are_limited, texts_have_few_statements, texts_have_text_names,
 };
+use vlt_fit_laws::programs_are_fit;
 use vlt_resolve_laws::elaborated_programs_have_narrow_states;
-use vlt_verdict::programs_are_fit;
 
 /// The code has a flow of each body of a text's program, and a map for it to begin with.
 pub fn texts_have_flows()

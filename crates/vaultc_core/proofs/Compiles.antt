@@ -6,9 +6,9 @@ use Rattle.vlt_base.specs.declared.limits.TheConstants.{SOURCE_BYTES, C_BYTES}
 use Rattle.vlt_io.specs.Outside.{Files, IsRead, Grew}
 use Rattle.vlt_io.specs.declared.sink.Sink as sink
 use Rattle.vlt_io.specs.declared.store.Store.{Ghosts}
-use Rattle.vlt_resolve.specs.Elaboration.{broken, exceeded}
+use Rattle.vlt_elaboration.specs.Elaboration.{broken, exceeded}
 use Rattle.vlt_syntax.specs.Tree.{Tree}
-use Rattle.vlt_verdict.specs.FitLaws.Texts.{TextsHaveTextTrees}
+use Rattle.vlt_fit_laws.specs.Texts.{TextsHaveTextTrees}
 use Rattle.vlt_verdict.specs.Verdicts.{Verdict, refused, faulty, accepted, IsVerdictOf}
 use Rattle.c_lower_accepted.specs.Texts.{TreesRunAlike, TreesAreDefined}
 use Rattle.c_lower_printed.specs.Laws.{AcceptedTextsAreReadAgain}

@@ -8,11 +8,11 @@ use Rattle.vlt_core.specs.Core.{Program}
 use Rattle.vlt_io.specs.Outside.{Files, Grew}
 use Rattle.vlt_io.specs.declared.sink.Sink as sink
 use Rattle.vlt_io.specs.declared.store.Store.{Ghosts}
-use Rattle.vlt_resolve.specs.Elaboration as elab
-use Rattle.vlt_resolve.specs.Programs.{program_told}
+use Rattle.vlt_elaboration.specs.Elaboration as elab
+use Rattle.vlt_elaboration.specs.Programs.{program_told}
 use Rattle.vlt_iface.specs.View.{View}
 use Rattle.vlt_iface.specs.Told.{Told, broken, clash, exceeded, view_told, joined_told}
-use Rattle.vlt_verdict.specs.FitLaws.Fit.{ProgramsAreFit}
+use Rattle.vlt_fit_laws.specs.Fit.{ProgramsAreFit}
 use Rattle.vlt_verdict.specs.Verdicts.{Verdict, refused, faulty, accepted}
 use Rattle.vlt_verdict.proofs.Single.{fit_program}
 use Rattle.vlt_view_verdict.specs.Verdicts.{IsVerdictOfView}

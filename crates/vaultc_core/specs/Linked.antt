@@ -3,7 +3,7 @@ use Rattle.std.specs.Prelude.{◌≡◌, ℕ, List, length, Option, Some, Ok}
 use Rattle.vlt_syntax.specs.Tree.{Tree}
 use Rattle.vlt_core.specs.Core.{Program}
 use Rattle.vlt_core.specs.Derives.{IsAccepted}
-use Rattle.vlt_resolve.specs.Programs.{program_told}
+use Rattle.vlt_elaboration.specs.Programs.{program_told}
 use Rattle.vlt_sound.specs.Promise.{NeverGoesWrong, LeavesOnlyItsClause}
 use Rattle.vlt_io.specs.Outside.{Files, Grew}
 use Rattle.vlt_iface.specs.Told.{joined_told}

@@ -4,7 +4,7 @@ ghost use Rattle.std.specs.Prelude.{◌≡◌, ◌≢◌, List, ℕ, map, None, 
 ghost use Rattle.vlt_base.specs.declared.limits.TheConstants.{SOURCE_BYTES};
 ghost use Rattle.vlt_core.specs.View.{program_of};
 ghost use Rattle.vlt_syntax.specs.View.{tree_of};
-ghost use Rattle.vlt_verdict.specs.FitLaws.Fit.{IsTextTree};
+ghost use Rattle.vlt_fit_laws.specs.Fit.{IsTextTree};
 ghost use Rattle.vlt_numbers.specs.Given.Given.{given_by};
 ghost use Rattle.vlt_verdict.specs.Seen.{IsTellable};
 ghost use Rattle.vlt_interp.specs.Reached.{IsRunnable};
@@ -37,6 +37,7 @@ use vaultc_words::{
 };
 use vlt_base::{Budgets, C_BYTES, SOURCE_BYTES};
 use vlt_core::Program;
+use vlt_fit_laws::programs_are_fit;
 use vlt_host_laws::hosts_of_accepted_programs_go_right;
 use vlt_io::{Sink, Store};
 use vlt_run_laws::{
@@ -45,7 +46,7 @@ use vlt_run_laws::{
 };
 use vlt_sound::accepted_programs_go_right;
 use vlt_syntax::Tree;
-use vlt_verdict::{Verdict, programs_are_fit};
+use vlt_verdict::Verdict;
 
 /// What `check` says of a text.
 fn reply_to_check(alloc: Global, bytes: &[u8]) -> Result<Reply, AllocError>

@@ -19,8 +19,9 @@ use std::alloc::{AllocError, Global};
 use vaultc_replies::{c_file, verdict};
 use vaultc_runs::Reply;
 use vlt_core::Program;
+use vlt_fit_laws::{programs_are_fit, texts_have_text_trees};
 use vlt_syntax::Tree;
-use vlt_verdict::{Verdict, programs_are_fit, texts_have_text_trees};
+use vlt_verdict::Verdict;
 
 /// The program, where the verdict is that it follows all rules.
 pub fn accepted(judged: &Verdict) -> Option<&Program>

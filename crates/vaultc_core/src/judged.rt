@@ -2,15 +2,16 @@
 
 ghost use Rattle.std.specs.Prelude.{List, ℕ, IfOk};
 ghost use Rattle.vlt_syntax.specs.View.{tree_of};
-ghost use Rattle.vlt_verdict.specs.FitLaws.Fit.{IsTextTree};
+ghost use Rattle.vlt_fit_laws.specs.Fit.{IsTextTree};
 ghost use Rattle.vlt_verdict.specs.Seen.{IsTellable};
 ghost use Rattle.vaultc_replies.specs.Judged.{IsJudged};
 ghost use Rattle.vaultc_runs.specs.Texts.{IsTextOf};
 
 use cert_verify_laws::texts_are_judged;
 use std::alloc::{AllocError, Global};
+use vlt_judge::judge;
 use vlt_syntax::Tree;
-use vlt_verdict::{JudgeError, Verdict, judge};
+use vlt_verdict::{JudgeError, Verdict};
 
 /// What the tree of a text is as a program.
 pub fn judge_text(alloc: Global, tree: &Tree) -> Result<Verdict, AllocError>

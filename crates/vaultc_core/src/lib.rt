@@ -42,12 +42,11 @@ use cert_verify_laws::{
 };
 use std::alloc::Global;
 use vlt_check_laws::first_fault_has_witness;
+use vlt_fit_laws::{programs_are_fit, texts_have_text_trees};
 use vlt_host_laws::hosts_of_accepted_programs_go_right;
 use vlt_io::{Sink, Store};
 use vlt_sound::accepted_programs_go_right;
-use vlt_verdict::{
-    a_tree_has_one_verdict, a_tree_has_some_verdict, programs_are_fit, texts_have_text_trees,
-};
+use vlt_verdict::{a_tree_has_one_verdict, a_tree_has_some_verdict};
 use vlt_view_verdict::{a_view_has_one_verdict, a_view_has_some_verdict, accepted_modules_link};
 
 /// Carries out the command that the words are, and gives its status.

@@ -10,7 +10,7 @@ use cert_text_laws::joined_programs_are_of_texts;
 use std::alloc::{AllocError, Global};
 use vaultc_replies::{Last, NamedText, Parsed, joined, parse, program_in, tested};
 use vaultc_runs::Reply;
-use vlt_verdict::programs_are_fit;
+use vlt_fit_laws::programs_are_fit;
 use vlt_view_verdict::accepted_modules_link;
 
 /// The steps of `link` after its texts are read.

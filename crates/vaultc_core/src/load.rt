@@ -4,7 +4,7 @@ ghost use Rattle.vlt_core.specs.View.{program_of};
 ghost use Rattle.vlt_interp.specs.Reached.{IsRunnable};
 ghost use Rattle.vlt_load.specs.Generated.{generated_text};
 ghost use Rattle.vlt_syntax.specs.View.{tree_of};
-ghost use Rattle.vlt_verdict.specs.FitLaws.Fit.{IsTextTree};
+ghost use Rattle.vlt_fit_laws.specs.Fit.{IsTextTree};
 ghost use Rattle.vlt_verdict.specs.Seen.{IsTellable};
 ghost use Rattle.vaultc_replies.specs.Compilable.{IsCompilable};
 ghost use Rattle.vaultc_runs.specs.Finishes.{Finishes};
@@ -22,11 +22,12 @@ use vaultc_runs::{DONE, NO_MEMORY, finish, finish_reply, refusal};
 use vaultc_words::{Functions, Generated, generate};
 use vlt_base::Memory;
 use vlt_core::Program;
+use vlt_fit_laws::{programs_are_fit, texts_have_text_trees};
 use vlt_io::Sink;
 use vlt_run_laws::{accepted_programs_know_their_calls, kinded_programs_name_their_own};
 use vlt_sound::accepted_programs_go_right;
 use vlt_syntax::Tree;
-use vlt_verdict::{Verdict, programs_are_fit, texts_have_text_trees};
+use vlt_verdict::Verdict;
 
 /// Compiles an accepted program, and then runs it.
 fn compile_and_run<K: Sink>(alloc: Global, made: &Generated, program: &Program, out: &mut K) -> u8

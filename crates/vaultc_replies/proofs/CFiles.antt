@@ -9,7 +9,7 @@ use Rattle.vlt_base.specs.declared.limits.TheConstants.{C_BYTES}
 use Rattle.vlt_core.specs.Core.{Ty, int, bool, tracked, owning, guarded, variant, owning_variant, Func, Program}
 use Rattle.vlt_core.specs.Lookups.{cases_of}
 use Rattle.vlt_syntax.specs.Tree.{Tree}
-use Rattle.vlt_verdict.specs.FitLaws.Fit.{IsTextTree, ProgramsAreFit}
+use Rattle.vlt_fit_laws.specs.Fit.{IsTextTree, ProgramsAreFit}
 use Rattle.vlt_verdict.specs.Verdicts.{accepted, IsVerdictOf}
 use Rattle.c_syntax.specs.C as c
 use Rattle.c_syntax.specs.Canonical.{canonical_text}

@@ -2,8 +2,8 @@
 use Rattle.std.proofs.Common.{ℕ, List}
 use Rattle.vlt_syntax.specs.Tree.{Tree}
 use Rattle.vlt_core.specs.Core.{Program}
-use Rattle.vlt_verdict.specs.FitLaws.Fit.{ProgramsAreFit}
-use Rattle.vlt_verdict.specs.FitLaws.Texts.{TextsHaveTextTrees}
+use Rattle.vlt_fit_laws.specs.Fit.{ProgramsAreFit}
+use Rattle.vlt_fit_laws.specs.Texts.{TextsHaveTextTrees}
 use Rattle.vlt_verdict.specs.Verdicts.{accepted, IsVerdictOf}
 use Rattle.vlt_verdict.proofs.Single.{fit_program}
 use Rattle.vaultc_runs.specs.Texts.{IsTextOf}

@@ -13,7 +13,7 @@ use Rattle.vlt_core.specs.declared.program.Program as core
 use Rattle.vlt_core.specs.declared.program.Func as funcs
 use Rattle.vlt_core.specs.FaultView.{kind_of}
 use Rattle.vlt_check.specs.Checks.{fault_of}
-use Rattle.vlt_verdict.specs.FitLaws.Fit.{IsTextTree, ProgramsAreFit}
+use Rattle.vlt_fit_laws.specs.Fit.{IsTextTree, ProgramsAreFit}
 use Rattle.vlt_reports.specs.Reports.{fault_line, instance_text, paths_text}
 use Rattle.vlt_syntax.specs.Tree.{Tree}
 use Rattle.vlt_verdict.proofs.Single.{fit_program}

@@ -7,11 +7,11 @@ use Rattle.vlt_io.specs.declared.sink.Sink as sink
 use Rattle.vlt_io.specs.declared.store.Store.{Ghosts}
 use Rattle.vlt_lexer.specs.declared.LexError.TheVariants as lex
 use Rattle.vlt_numbers.specs.Given.Given.{Given, numbers, bad_input, bad_answers, given_by}
-use Rattle.vlt_resolve.specs.Elaboration.{broken, exceeded}
+use Rattle.vlt_elaboration.specs.Elaboration.{broken, exceeded}
 use Rattle.vlt_syntax.specs.Refusals.{unexpected_at, over_limit, ended}
 use Rattle.vlt_syntax.specs.Tree.{Tree}
-use Rattle.vlt_verdict.specs.FitLaws.Fit.{ProgramsAreFit}
-use Rattle.vlt_verdict.specs.FitLaws.Texts.{TextsHaveTextTrees}
+use Rattle.vlt_fit_laws.specs.Fit.{ProgramsAreFit}
+use Rattle.vlt_fit_laws.specs.Texts.{TextsHaveTextTrees}
 use Rattle.vlt_verdict.specs.Verdicts.{Verdict, refused, faulty, accepted, IsVerdictOf}
 use Rattle.vlt_verdict.proofs.Single.{fit_program}
 use Rattle.vlt_host_meaning.specs.Calls.{HostCall}

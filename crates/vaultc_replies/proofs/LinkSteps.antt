@@ -3,9 +3,9 @@ use Rattle.std.proofs.Common.{◌≡◌, true, false, Ok, sym, ap, ◌∙◌, su
 use Rattle.vlt_syntax.specs.Tree.{Tree}
 use Rattle.vlt_syntax.specs.View.{tree_of}
 use Rattle.vlt_core.specs.Core.{Program}
-use Rattle.vlt_resolve.specs.Programs.{with_kinds, program_told}
+use Rattle.vlt_elaboration.specs.Programs.{with_kinds, program_told}
 use Rattle.vlt_iface.specs.Told.{joined_told}
-use Rattle.vlt_verdict.specs.FitLaws.Fit.{ProgramsAreFit}
+use Rattle.vlt_fit_laws.specs.Fit.{ProgramsAreFit}
 use Rattle.vlt_verdict.proofs.Single.{fit_program}
 use Rattle.vlt_link_laws.specs.Link.{IsAcceptedText}
 use Rattle.vlt_view_verdict.specs.Link.{AcceptedModulesLink}

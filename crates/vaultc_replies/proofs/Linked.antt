@@ -3,10 +3,10 @@ use Rattle.std.proofs.Common.{◌≡◌, ℕ, true, false, List, Ok, ap, ◌∙�
 use Rattle.vlt_syntax.specs.Tree.{Tree}
 use Rattle.vlt_core.specs.Core.{Program}
 use Rattle.vlt_core.specs.Derives.{IsAccepted}
-use Rattle.vlt_resolve.specs.Programs.{with_kinds, program_told}
+use Rattle.vlt_elaboration.specs.Programs.{with_kinds, program_told}
 use Rattle.vlt_iface.specs.Told.{joined_told}
-use Rattle.vlt_verdict.specs.FitLaws.Fit.{IsTextTree}
-use Rattle.vlt_verdict.specs.FitLaws.Texts.{TextsHaveTextTrees}
+use Rattle.vlt_fit_laws.specs.Fit.{IsTextTree}
+use Rattle.vlt_fit_laws.specs.Texts.{TextsHaveTextTrees}
 use Rattle.vlt_view_verdict.specs.Link.{IsAcceptedWith, AcceptedModulesLink}
 use Rattle.c_lower_accepted.specs.Texts.{IsAcceptedTree}
 use Rattle.cert_text_laws.specs.Texts.{IsProgramOfTexts}

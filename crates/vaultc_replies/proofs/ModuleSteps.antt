@@ -4,7 +4,7 @@ use Rattle.std.specs.Prelude.{IfSome}
 use Rattle.std.specs.Option.{option_map}
 use Rattle.vlt_base.specs.Limits.{limit_of}
 use Rattle.vlt_base.specs.declared.limits.TheConstants.{SOURCE_BYTES}
-use Rattle.vlt_lexer.specs.Reading.{Lexeme}
+use Rattle.vlt_tokens.specs.Lexemes.{Lexeme}
 use Rattle.vlt_lexer.specs.Text.{IsTokensOf}
 use Rattle.vlt_syntax.specs.Places.{StandsIn}
 use Rattle.vlt_syntax_copies.specs.Within.{AreWithin}

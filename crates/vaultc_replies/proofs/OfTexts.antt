@@ -5,9 +5,9 @@ use Rattle.vlt_core.specs.Core.{Program}
 use Rattle.vlt_kinds_types.specs.declared.names.found.Refusal.{Refusal}
 use Rattle.vlt_kinds_types.specs.Kinds.{Kinds}
 use Rattle.vlt_kinds.specs.Tables.{kinds_told}
-use Rattle.vlt_resolve.specs.Elaboration.{Told, broken}
-use Rattle.vlt_resolve.specs.Programs.{with_kinds, program_told}
-use Rattle.vlt_verdict.specs.FitLaws.Fit.{IsTextTree}
+use Rattle.vlt_elaboration.specs.Elaboration.{Told, broken}
+use Rattle.vlt_elaboration.specs.Programs.{with_kinds, program_told}
+use Rattle.vlt_fit_laws.specs.Fit.{IsTextTree}
 use Rattle.cert_text_laws.specs.Texts.{IsProgramOfTexts}
 use Rattle.cert_text_laws.proofs.InTexts.{spelled_in, short_in}
 use Rattle.vaultc_runs.specs.Texts.{IsTextOf}

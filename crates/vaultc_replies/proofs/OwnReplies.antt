@@ -9,7 +9,7 @@ use Rattle.vlt_meaning.specs.World.{event_text}
 use Rattle.vlt_numbers.specs.Given.Given.{Given, given_by}
 use Rattle.vlt_host_meaning.specs.Calls.{HostCall}
 use Rattle.vlt_host.specs.CallsFile.{calls_of}
-use Rattle.vlt_resolve.specs.Elaboration.{broken, exceeded}
+use Rattle.vlt_elaboration.specs.Elaboration.{broken, exceeded}
 use Rattle.vlt_syntax.specs.Tree.{Tree}
 use Rattle.vlt_verdict.specs.Verdicts as verdict
 use Rattle.vlt_verdict.specs.Verdicts.{Verdict}

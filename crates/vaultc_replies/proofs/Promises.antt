@@ -6,8 +6,8 @@ use Rattle.vlt_core.specs.Core.{Program}
 use Rattle.vlt_core.specs.Derives.{IsAccepted}
 use Rattle.vlt_core.specs.Kinded.{IsKinded}
 use Rattle.vlt_core_laws.specs.States.{HasStates}
-use Rattle.vlt_verdict.specs.FitLaws.Fit.{ProgramsAreFit}
-use Rattle.vlt_verdict.specs.FitLaws.Texts.{TextsHaveTextTrees}
+use Rattle.vlt_fit_laws.specs.Fit.{ProgramsAreFit}
+use Rattle.vlt_fit_laws.specs.Texts.{TextsHaveTextTrees}
 use Rattle.vlt_sound.specs.Sizes.{HasSizes}
 use Rattle.vlt_sound.specs.Narrow.{HasNarrowHeads}
 use Rattle.vlt_sound.specs.Promise.{NeverGoesWrong, LeavesOnlyItsClause}
@@ -15,7 +15,7 @@ use Rattle.vlt_io.specs.Outside.{Files, IsRead, Rose, Grew}
 use Rattle.vlt_io.specs.declared.sink.Sink as sink
 use Rattle.vlt_io.specs.declared.store.Store.{Ghosts}
 use Rattle.vlt_lexer.specs.declared.LexError.TheVariants as lex
-use Rattle.vlt_resolve.specs.Elaboration.{broken, exceeded}
+use Rattle.vlt_elaboration.specs.Elaboration.{broken, exceeded}
 use Rattle.vlt_syntax.specs.Refusals.{unexpected_at, over_limit, ended}
 use Rattle.vlt_syntax.specs.Tree.{Tree}
 use Rattle.vlt_verdict.specs.Verdicts.{Verdict, refused, faulty, accepted, IsVerdictOf}

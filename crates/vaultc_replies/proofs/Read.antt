@@ -2,7 +2,7 @@
 use Rattle.std.proofs.Common.{◌≡◌, ◌⊎◌, inl, inr, ℕ, ◌≤◌, List, length, IfSome, ap, subst}
 use Rattle.vlt_base.specs.Limits.{limit_of}
 use Rattle.vlt_base.specs.declared.limits.TheConstants.{TOKENS}
-use Rattle.vlt_lexer.specs.Reading.{Lexeme}
+use Rattle.vlt_tokens.specs.Lexemes.{Lexeme}
 use Rattle.vlt_lexer.specs.Text.{IsTokensOf}
 use Rattle.vlt_lexer.proofs.OneAnswer.{one_list, cause, one_refusal as one_lexer_refusal, read_not_refused}
 use Rattle.vlt_syntax.specs.Tree.{Tree}
@@ -17,8 +17,8 @@ use Rattle.vlt_syntax_laws.proofs.OneTree.{one_placed_tree}
 use Rattle.vaultc_runs.specs.Texts.{AreTokens, IsTextOf, Refusal, unlexed, unparsed, AreRefused, AreReadInOneWay}
 use Rattle.vaultc_runs.specs.Shown.{refusal_of}
 use Rattle.vaultc_runs.specs.declared.text_error.TextError.TheVariants as error
-use Rattle.vlt_verdict.specs.FitLaws.Fit.{IsTextTree}
-use Rattle.vlt_verdict.specs.FitLaws.Texts.{TextsHaveTextTrees}
+use Rattle.vlt_fit_laws.specs.Fit.{IsTextTree}
+use Rattle.vlt_fit_laws.specs.Texts.{TextsHaveTextTrees}
 use Rattle.vaultc_runs.proofs.Lexed.{Lexed, lexed}
 
 lists_alike : (bytes : List ℕ) (ls ms : List Lexeme) → AreTokens bytes ls → AreTokens bytes ms → ls ≡ ms

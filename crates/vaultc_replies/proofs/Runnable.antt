@@ -5,7 +5,7 @@ use Rattle.vlt_core.specs.Core.{Program}
 use Rattle.vlt_core.specs.Derives.{IsAccepted}
 use Rattle.vlt_core.specs.Kinded.{IsKinded}
 use Rattle.vlt_core_laws.specs.States.{HasStates}
-use Rattle.vlt_verdict.specs.FitLaws.Fit.{IsTextTree, ProgramsAreFit}
+use Rattle.vlt_fit_laws.specs.Fit.{IsTextTree, ProgramsAreFit}
 use Rattle.vlt_interp.specs.Calls.Known.{KnowsItsCalls}
 use Rattle.vlt_interp.specs.Reached.{IsRunnable}
 use Rattle.vlt_run_laws.specs.Blank.{HasBlankExternals, HasFewVars}

@@ -6,8 +6,8 @@ use Rattle.vlt_core.specs.Core.{Program}
 use Rattle.vlt_meaning.specs.World.{Ran, event_text}
 use Rattle.vlt_meaning.specs.Run as meaning
 use Rattle.vlt_syntax.specs.Tree.{Tree}
-use Rattle.vlt_verdict.specs.FitLaws.Fit.{IsTextTree}
-use Rattle.vlt_verdict.specs.FitLaws.Texts.{TextsHaveTextTrees}
+use Rattle.vlt_fit_laws.specs.Fit.{IsTextTree}
+use Rattle.vlt_fit_laws.specs.Texts.{TextsHaveTextTrees}
 use Rattle.vlt_numbers.specs.Given.Given.{Given, numbers, bad_input, bad_answers, given_by}
 use Rattle.vlt_host_meaning.specs.Calls.{HostCall}
 use Rattle.vlt_host_meaning.specs.HostRun.{HostRan, host_run}

@@ -11,8 +11,8 @@ use Rattle.vlt_kinds_types.specs.declared.names.found.Refusal.{Refusal}
 use Rattle.vlt_iface.specs.View.{View, viewed, joined}
 use Rattle.vlt_iface.specs.Clash.{clashing}
 use Rattle.vlt_iface.specs.Told.{Told, Place, place_of, broken, clash, exceeded, view_told, joined_told, unless_in, when_few, least_name, unless_clash}
-use Rattle.vlt_verdict.specs.FitLaws.Fit.{IsTextTree}
-use Rattle.vlt_verdict.specs.FitLaws.Texts.{TextsHaveTextTrees}
+use Rattle.vlt_fit_laws.specs.Fit.{IsTextTree}
+use Rattle.vlt_fit_laws.specs.Texts.{TextsHaveTextTrees}
 use Rattle.vlt_verdict.specs.Verdicts.{Verdict, refused, faulty, accepted}
 use Rattle.vlt_view_verdict.specs.Laws.{ViewsHaveSomeVerdict}
 use Rattle.vlt_view_verdict.specs.Link.{IsAcceptedWith}

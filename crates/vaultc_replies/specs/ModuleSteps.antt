@@ -7,7 +7,7 @@ use Rattle.vlt_syntax_copies.specs.Within.{AreWithin}
 use Rattle.vlt_core.specs.Core.{Program}
 use Rattle.vlt_iface.specs.View.{View}
 use Rattle.vlt_iface.specs.Told.{Told, view_told}
-use Rattle.vlt_verdict.specs.FitLaws.Fit.{IsTextTree}
+use Rattle.vlt_fit_laws.specs.Fit.{IsTextTree}
 use Rattle.vlt_verdict.specs.Verdicts.{accepted}
 use Rattle.vlt_view_verdict.specs.Verdicts.{IsVerdictOfView}
 use Rattle.vaultc_runs.specs.Lines.{Reply, in_file}

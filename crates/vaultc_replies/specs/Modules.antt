@@ -3,8 +3,8 @@ use Rattle.std.specs.Prelude.{◌≡◌, ◌⊎◌, ◌==◌, ℕ, Bool, true, f
 use Rattle.std.specs.Fmt.{decimal}
 use Rattle.vlt_syntax.specs.Tree.{Tree}
 use Rattle.vlt_core.specs.Core.{Program}
-use Rattle.vlt_resolve.specs.Elaboration as elab
-use Rattle.vlt_resolve.specs.Programs.{program_told}
+use Rattle.vlt_elaboration.specs.Elaboration as elab
+use Rattle.vlt_elaboration.specs.Programs.{program_told}
 use Rattle.vlt_iface.specs.View.{View}
 use Rattle.vlt_iface.specs.Told.{Place, place_of, Told, broken, clash, exceeded, view_told, joined_told}
 use Rattle.vlt_verdict.specs.Verdicts.{Verdict, refused, faulty, accepted}

@@ -2,7 +2,7 @@
 use Rattle.std.specs.Prelude.{◌≡◌, ℕ, List, Ok}
 use Rattle.vlt_syntax.specs.Tree.{Tree}
 use Rattle.vlt_core.specs.Core.{Program}
-use Rattle.vlt_resolve.specs.Programs.{program_told}
+use Rattle.vlt_elaboration.specs.Programs.{program_told}
 use Rattle.vaultc_runs.specs.Texts.{IsTooLong, IsTextOf}
 
 -- the bytes are the text of a tree, whose core program this is

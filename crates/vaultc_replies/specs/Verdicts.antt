@@ -4,7 +4,7 @@ use Rattle.vlt_syntax.specs.Tree.{Tree}
 use Rattle.vlt_core.specs.Core.{Func, Program}
 use Rattle.vlt_core.specs.Faults.{FlowFault}
 use Rattle.vlt_core.specs.Witness.{Choice, IsWitness}
-use Rattle.vlt_resolve.specs.Elaboration.{Told, broken, exceeded}
+use Rattle.vlt_elaboration.specs.Elaboration.{Told, broken, exceeded}
 use Rattle.vlt_verdict.specs.Verdicts.{Verdict, refused, faulty, accepted}
 use Rattle.vlt_reports.specs.Accepted.{accepted_line}
 use Rattle.vlt_reports.specs.Reports.{kind_line, fault_line, instance_text, paths_text}

@@ -2,16 +2,16 @@
 
 ghost use Rattle.std.specs.Prelude.{IfOk, IfErr, IfSome};
 ghost use Rattle.vlt_syntax.specs.View.{tree_of};
-ghost use Rattle.vlt_verdict.specs.FitLaws.Fit.{IsTextTree};
+ghost use Rattle.vlt_fit_laws.specs.Fit.{IsTextTree};
 ghost use Rattle.vaultc_runs.specs.Texts.{IsTooLong, IsTextOf, AreRefused};
 ghost use Rattle.vaultc_runs.specs.Shown.{refusal_of};
 
 use std::alloc::Global;
 use vaultc_runs::TextError;
+use vlt_fit_laws::texts_have_text_trees;
 use vlt_lexer::lex;
 use vlt_parser::parse;
 use vlt_syntax::Tree;
-use vlt_verdict::texts_have_text_trees;
 
 /// The tree that the bytes spell.
 pub fn read_tree(alloc: Global, bytes: &[u8]) -> Result<Tree, TextError>

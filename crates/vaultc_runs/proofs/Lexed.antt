@@ -6,15 +6,15 @@ use Rattle.std.proofs.lemmas.Str.{encodes-append, IsUtf8-from_is_utf8, is_utf8-f
 use Rattle.std.specs.Prelude.{◌==◌, codes, encode_utf8_all}
 use Rattle.std.specs.Str.{chars, IsUtf8, is_utf8, IsValidUpTo}
 use Rattle.vlt_base.specs.Limits.{limit_of}
-use Rattle.vlt_lexer.specs.declared.token.TokenKind.{TokenKind}
-use Rattle.vlt_lexer.specs.declared.token.TokenKind.TheVariants as kind
+use Rattle.vlt_tokens.specs.declared.token.TokenKind.{TokenKind}
+use Rattle.vlt_tokens.specs.declared.token.TokenKind.TheVariants as kind
 use Rattle.vlt_lexer.specs.declared.scan.Stuck.{Stuck}
 use Rattle.vlt_lexer.specs.declared.scan.Stuck.TheVariants as stuck
 use Rattle.vlt_lexer.specs.declared.LexError.{LexError}
 use Rattle.vlt_lexer.specs.declared.LexError.TheVariants as error
-use Rattle.vlt_lexer.specs.Characters.{is_blank, is_digit, value_of, following, or_else, after_line, after_close, width}
-use Rattle.vlt_lexer.specs.Lexemes.{max_number}
-use Rattle.vlt_lexer.specs.Reading.{Lexeme, IsGap, blank, IsToken, Reads, nothing, gap, token, IsStuck}
+use Rattle.vlt_tokens.specs.Characters.{is_blank, is_digit, value_of, following, or_else, after_line, after_close, width}
+use Rattle.vlt_tokens.specs.Lexemes.{max_number, Lexeme}
+use Rattle.vlt_lexer.specs.Reading.{IsGap, blank, IsToken, Reads, nothing, gap, token, IsStuck}
 use Rattle.vlt_lexer.specs.Steps.{run, past_run, past_name, sign_of, keyword_of, kind_of, IsNoComment}
 use Rattle.vlt_lexer.specs.Text.{IsTokensOf, StopsAt, IsRefused}
 use Rattle.vlt_lexer.proofs.Bytes.{width_chars}

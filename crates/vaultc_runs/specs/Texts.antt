@@ -1,7 +1,7 @@
 -- Which bytes are the text of a tree, and what is said of others.
 use Rattle.std.specs.Prelude.{◌≡◌, ◌<◌, ◌≤◌, ◌⊎◌, ℕ, List, [], length, codes}
 use Rattle.vlt_base.specs.Limits.{limit_of}
-use Rattle.vlt_lexer.specs.Reading.{Lexeme}
+use Rattle.vlt_tokens.specs.Lexemes.{Lexeme}
 use Rattle.vlt_lexer.specs.Text.{IsTokensOf, IsRefused}
 use Rattle.vlt_lexer.specs.declared.LexError.{LexError}
 use Rattle.vlt_lexer.specs.declared.LexError.TheVariants as lex

@@ -1,8 +1,8 @@
 -- Short texts, run by the machine.
 use Rattle.std.proofs.Common.{◌≡◌, ℕ, ◌∷◌, [], List, refl}
 use Rattle.std.specs.Prelude.{Ok, Err}
-use Rattle.vlt_lexer.specs.declared.token.Word.TheVariants as word
-use Rattle.vlt_lexer.specs.declared.token.Mark.TheVariants as mark
+use Rattle.vlt_tokens.specs.declared.token.Word.TheVariants as word
+use Rattle.vlt_tokens.specs.declared.token.Mark.TheVariants as mark
 use Rattle.vlt_syntax.specs.Tokens as t
 use Rattle.vlt_syntax.specs.Tokens.{Token}
 use Rattle.vlt_syntax.specs.Grammar.{language}

@@ -1,6 +1,6 @@
 -- The automaton within the bounds of the language.
 use Rattle.std.specs.Prelude.{ℕ, List, Option, map}
-use Rattle.vlt_lexer.specs.Reading.{Lexeme}
+use Rattle.vlt_tokens.specs.Lexemes.{Lexeme}
 use Rattle.vlt_syntax.specs.Tokens.{Token}
 use Rattle.vlt_syntax.specs.Grammar.{language}
 use Rattle.vlt_automaton.specs.Automaton as a

@@ -1,9 +1,9 @@
 -- Which keyword and which sign a token is, as numbers that can be compared.
 use Rattle.std.specs.Prelude.{ℕ, Bool, ◌==◌}
-use Rattle.vlt_lexer.specs.declared.token.Word.{Word}
-use Rattle.vlt_lexer.specs.declared.token.Word.TheVariants as word
-use Rattle.vlt_lexer.specs.declared.token.Mark.{Mark}
-use Rattle.vlt_lexer.specs.declared.token.Mark.TheVariants as mark
+use Rattle.vlt_tokens.specs.declared.token.Word.{Word}
+use Rattle.vlt_tokens.specs.declared.token.Word.TheVariants as word
+use Rattle.vlt_tokens.specs.declared.token.Mark.{Mark}
+use Rattle.vlt_tokens.specs.declared.token.Mark.TheVariants as mark
 
 abbrev pub word_number : Word → ℕ
 word_number word.Abstract = 0

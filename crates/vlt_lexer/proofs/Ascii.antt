@@ -3,7 +3,7 @@ use Rattle.std.proofs.Common.{◌≡◌, ℕ, ◌<◌, ◌||◌, ◌==◌, Bool,
 use Rattle.std.proofs.lemmas.Bool.{ltb-true}
 use Rattle.std.specs.Char.{is_ascii, is_ascii_alphabetic, is_ascii_alphanumeric}
 use Rattle.unicode_ident.proofs.IdentLemmas.{is_xid_start-ascii, is_xid_continue-ascii}
-use Rattle.vlt_lexer.specs.Characters.{is_name_start, is_name_more}
+use Rattle.vlt_tokens.specs.Characters.{is_name_start, is_name_more}
 
 below : (c : ℕ) → true ≡ is_ascii c → c < 128
 below c ascii = ltb-true c 128 (sym ascii)

@@ -4,14 +4,14 @@ use Rattle.std.specs.Prelude.{codes, cond}
 use Rattle.std.proofs.lemmas.Int.{to_z-of_z}
 use mir.Val.{SFits, to_z, of_z}
 use mir.Syntax.{w64}
-use Rattle.vlt_lexer.specs.declared.token.Mark.{Mark}
-use Rattle.vlt_lexer.specs.declared.token.TokenKind.{TokenKind}
-use Rattle.vlt_lexer.specs.declared.token.TokenKind.TheVariants as kind
+use Rattle.vlt_tokens.specs.declared.token.Mark.{Mark}
+use Rattle.vlt_tokens.specs.declared.token.TokenKind.{TokenKind}
+use Rattle.vlt_tokens.specs.declared.token.TokenKind.TheVariants as kind
 use Rattle.vlt_lexer.specs.declared.scan.Stuck.TheVariants as stuck
-use Rattle.vlt_lexer.specs.declared.token.TheConstants.Mark as signs
-use Rattle.vlt_lexer.specs.Spelling.{sign_text}
-use Rattle.vlt_lexer.specs.Characters.{is_blank, is_digit, is_name_start, is_name_more, IsName, IsDigits, value_of, following, after_line, after_close}
-use Rattle.vlt_lexer.specs.Lexemes.{IsLongest, IsOf, max_number}
+use Rattle.vlt_tokens.specs.declared.token.TheConstants.Mark as signs
+use Rattle.vlt_tokens.specs.Spelling.{sign_text}
+use Rattle.vlt_tokens.specs.Characters.{is_blank, is_digit, is_name_start, is_name_more, IsName, IsDigits, value_of, following, after_line, after_close}
+use Rattle.vlt_tokens.specs.Lexemes.{IsLongest, IsOf, max_number}
 use Rattle.vlt_lexer.specs.Reading.{IsGap, line, block, IsStuck}
 use Rattle.vlt_lexer.specs.Steps.{run, past_run, past_name, Holds, sign_of, first_beginning, IsNoComment}
 use Rattle.vlt_lexer.proofs.Runs.{after_splits, run_splits, run_is, some_is}

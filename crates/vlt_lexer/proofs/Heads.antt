@@ -6,12 +6,12 @@ use Rattle.std.specs.Prelude.{◌==◌}
 use Rattle.std.proofs.lemmas.Bool.Decides.{nat_tests, leb_tells}
 use Rattle.unicode_ident.specs.Ident.{is_xid_start}
 use Rattle.unicode_ident.proofs.IdentLemmas.{is_xid_start-ascii, is_xid_continue-ascii}
-use Rattle.vlt_lexer.specs.declared.token.Word.{Word}
-use Rattle.vlt_lexer.specs.declared.token.Mark.{Mark}
-use Rattle.vlt_lexer.specs.declared.token.TheConstants.Word as words
-use Rattle.vlt_lexer.specs.declared.token.TheConstants.Mark as signs
-use Rattle.vlt_lexer.specs.Spelling.{word_text, sign_text}
-use Rattle.vlt_lexer.specs.Characters.{is_blank, is_digit, is_name_start, is_name_more, EachIs, IsName}
+use Rattle.vlt_tokens.specs.declared.token.Word.{Word}
+use Rattle.vlt_tokens.specs.declared.token.Mark.{Mark}
+use Rattle.vlt_tokens.specs.declared.token.TheConstants.Word as words
+use Rattle.vlt_tokens.specs.declared.token.TheConstants.Mark as signs
+use Rattle.vlt_tokens.specs.Spelling.{word_text, sign_text}
+use Rattle.vlt_tokens.specs.Characters.{is_blank, is_digit, is_name_start, is_name_more, EachIs, IsName}
 use Rattle.vlt_lexer.proofs.Runs.{true_false}
 use Rattle.vlt_lexer.proofs.Tables.{word_found, sign_found, spelled_passes}
 

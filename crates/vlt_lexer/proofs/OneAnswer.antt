@@ -8,8 +8,9 @@ use Rattle.vlt_lexer.specs.declared.scan.Stuck.{Stuck}
 use Rattle.vlt_lexer.specs.declared.scan.Stuck.TheVariants as stuck
 use Rattle.vlt_lexer.specs.declared.LexError.{LexError}
 use Rattle.vlt_lexer.specs.declared.LexError.TheVariants as error
-use Rattle.vlt_lexer.specs.Characters.{width}
-use Rattle.vlt_lexer.specs.Reading.{Lexeme, Reads, IsStuck}
+use Rattle.vlt_tokens.specs.Characters.{width}
+use Rattle.vlt_tokens.specs.Lexemes.{Lexeme}
+use Rattle.vlt_lexer.specs.Reading.{Reads, IsStuck}
 use Rattle.vlt_lexer.specs.Text.{IsTokensOf, AreSlicesOf, HasTooMany, StopsAt, IsRefused}
 use Rattle.vlt_lexer.specs.Places.{error_at}
 use Rattle.vlt_lexer.proofs.Slices.{tokens_slices}

@@ -1,15 +1,15 @@
 -- A piece is a token of one kind only.
 use Rattle.std.proofs.Common.{◌≡◌, ℕ, ◌≤◌, true, List, [], ◌∷◌, ◌++◌, length, None, refl, sym, ap, subst, ◌∙◌, arith}
 use Rattle.std.specs.Prelude.{pos, nat_le}
-use Rattle.vlt_lexer.specs.declared.token.Word.{Word}
-use Rattle.vlt_lexer.specs.declared.token.Mark.{Mark}
-use Rattle.vlt_lexer.specs.declared.token.TokenKind.{TokenKind}
-use Rattle.vlt_lexer.specs.declared.token.TokenKind.TheVariants as kind
-use Rattle.vlt_lexer.specs.declared.token.TheConstants.Word as words
-use Rattle.vlt_lexer.specs.declared.token.TheConstants.Mark as signs
-use Rattle.vlt_lexer.specs.Spelling.{word_text, sign_text}
-use Rattle.vlt_lexer.specs.Characters.{is_blank, is_digit, IsName, IsDigits, value_of}
-use Rattle.vlt_lexer.specs.Lexemes.{IsPiece, name, tick, digits, sign, line_opens, block_opens, IsLongest, IsOf, max_number}
+use Rattle.vlt_tokens.specs.declared.token.Word.{Word}
+use Rattle.vlt_tokens.specs.declared.token.Mark.{Mark}
+use Rattle.vlt_tokens.specs.declared.token.TokenKind.{TokenKind}
+use Rattle.vlt_tokens.specs.declared.token.TokenKind.TheVariants as kind
+use Rattle.vlt_tokens.specs.declared.token.TheConstants.Word as words
+use Rattle.vlt_tokens.specs.declared.token.TheConstants.Mark as signs
+use Rattle.vlt_tokens.specs.Spelling.{word_text, sign_text}
+use Rattle.vlt_tokens.specs.Characters.{is_blank, is_digit, IsName, IsDigits, value_of}
+use Rattle.vlt_tokens.specs.Lexemes.{IsPiece, name, tick, digits, sign, line_opens, block_opens, IsLongest, IsOf, max_number}
 use Rattle.vlt_lexer.specs.Steps.{item_with_text}
 use Rattle.std.proofs.lemmas.Bool.Decides.{nat_tests}
 use Rattle.vlt_lexer.proofs.Pieces.{IsAt, at_name, at_tick, at_digits, at_mark, piece_at}

@@ -4,9 +4,9 @@ use Rattle.std.specs.Prelude.{codes, encode_utf8_all}
 use Rattle.std.proofs.lemmas.List.{length-append, append-nil}
 use Rattle.vlt_lexer.specs.declared.scan.Stuck.{Stuck}
 use Rattle.vlt_lexer.specs.declared.scan.Stuck.TheVariants as stuck
-use Rattle.vlt_lexer.specs.Characters.{is_blank, is_digit, IsDigits, value_of, after_line, after_close, width}
-use Rattle.vlt_lexer.specs.Lexemes.{IsPiece, line_opens, block_opens, digits, IsLongest, IsOf, max_number}
-use Rattle.vlt_lexer.specs.Reading.{Lexeme, IsGap, blank, line, block, IsToken, Reads, nothing, gap, token, IsStuck}
+use Rattle.vlt_tokens.specs.Characters.{is_blank, is_digit, IsDigits, value_of, after_line, after_close, width}
+use Rattle.vlt_tokens.specs.Lexemes.{IsPiece, line_opens, block_opens, digits, IsLongest, IsOf, max_number, Lexeme}
+use Rattle.vlt_lexer.specs.Reading.{IsGap, blank, line, block, IsToken, Reads, nothing, gap, token, IsStuck}
 use Rattle.vlt_lexer.proofs.Runs.{none_some, head_is, tail_is, not_empty, some_is, true_false, same_fronts}
 use Rattle.vlt_lexer.proofs.Heads.{digit_head}
 use Rattle.vlt_lexer.proofs.OneKind.{no_empty_piece, piece_of, number_only, one_kind, blank_no_token, opener_no_token}

@@ -1,12 +1,12 @@
 -- The longest piece at the front of a text, by its first character.
 use Rattle.std.proofs.Common.{◌≡◌, ℕ, ◌≤◌, Bool, true, false, List, [], ◌∷◌, ◌++◌, length, Some, None, refl, sym, ap, ◌∙◌, arith}
 use Rattle.std.specs.Prelude.{codes}
-use Rattle.vlt_lexer.specs.declared.token.Mark.{Mark}
-use Rattle.vlt_lexer.specs.declared.token.Mark.TheVariants as mark
-use Rattle.vlt_lexer.specs.declared.token.TheConstants.Mark as signs
-use Rattle.vlt_lexer.specs.Spelling.{sign_text}
-use Rattle.vlt_lexer.specs.Characters.{is_digit, is_name_start, is_name_more, EachIs, IsName}
-use Rattle.vlt_lexer.specs.Lexemes.{IsPiece, name, tick, digits, sign, line_opens, block_opens, IsLongest}
+use Rattle.vlt_tokens.specs.declared.token.Mark.{Mark}
+use Rattle.vlt_tokens.specs.declared.token.Mark.TheVariants as mark
+use Rattle.vlt_tokens.specs.declared.token.TheConstants.Mark as signs
+use Rattle.vlt_tokens.specs.Spelling.{sign_text}
+use Rattle.vlt_tokens.specs.Characters.{is_digit, is_name_start, is_name_more, EachIs, IsName}
+use Rattle.vlt_tokens.specs.Lexemes.{IsPiece, name, tick, digits, sign, line_opens, block_opens, IsLongest}
 use Rattle.vlt_lexer.specs.Steps.{run, past_run, past_name, first_beginning, IsNoComment}
 use Rattle.vlt_lexer.proofs.Runs.{none_some, head_is, tail_is, not_empty, true_false, run_longest, not_after}
 use Rattle.vlt_lexer.proofs.Tables.{sign_found, signs_fall, longest_begins, none_begins, begun_splits}

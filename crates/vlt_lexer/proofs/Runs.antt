@@ -1,7 +1,7 @@
 -- Runs of a class, and what stands after a front.
 use Rattle.std.proofs.Common.{◌≡◌, ℕ, suc, ◌≤◌, Bool, true, false, cond, eqb, List, [], ◌∷◌, ◌++◌, length, Some, None, refl, sym, ◌∙◌, ap, arith}
 use Rattle.std.proofs.lemmas.Bool.{eqb-true, eq-eqb}
-use Rattle.vlt_lexer.specs.Characters.{EachIs, following}
+use Rattle.vlt_tokens.specs.Characters.{EachIs, following}
 use Rattle.vlt_lexer.specs.Steps.{run, past_run}
 
 pub head_is : {c d : ℕ} {cs ds : List ℕ} → c ∷ cs ≡ d ∷ ds → c ≡ d

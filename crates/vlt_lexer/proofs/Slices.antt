@@ -5,9 +5,9 @@ use Rattle.std.specs.Str.{chars}
 use Rattle.std.proofs.lemmas.List.{length-append, take_at}
 use Rattle.std.proofs.Math.Seq.{drop-append_seam}
 use Rattle.std.proofs.lemmas.Str.{encodes-chars, encodes-append, length-le-encodes}
-use Rattle.vlt_lexer.specs.Characters.{width, following, or_else, after_line, after_close}
-use Rattle.vlt_lexer.specs.Lexemes.{IsPiece}
-use Rattle.vlt_lexer.specs.Reading.{Lexeme, IsGap, blank, line, block, Reads, nothing, gap, token}
+use Rattle.vlt_tokens.specs.Characters.{width, following, or_else, after_line, after_close}
+use Rattle.vlt_tokens.specs.Lexemes.{IsPiece, Lexeme}
+use Rattle.vlt_lexer.specs.Reading.{IsGap, blank, line, block, Reads, nothing, gap, token}
 use Rattle.vlt_lexer.specs.Text.{IsTokensOf, AreSlicesOf}
 use Rattle.vlt_lexer.proofs.Runs.{after_splits, some_is}
 use Rattle.vlt_lexer.proofs.OneKind.{piece_of, no_empty_piece}

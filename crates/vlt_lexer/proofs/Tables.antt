@@ -7,15 +7,15 @@ use Rattle.vlt_lexer.proofs.Runs.{some_is, not_after, after_splits, true_false, 
 use Rattle.std.specs.Prelude.{filter, slice_get}
 use Rattle.std.proofs.lemmas.Bool.{eq-eqb}
 use Rattle.std.specs.Str.{bytes_eq}
-use Rattle.vlt_lexer.specs.declared.token.Word.{Word}
-use Rattle.vlt_lexer.specs.declared.token.Word.TheVariants as word
-use Rattle.vlt_lexer.specs.declared.token.Mark.{Mark}
-use Rattle.vlt_lexer.specs.declared.token.Mark.TheVariants as sign
-use Rattle.vlt_lexer.specs.declared.token.TheConstants.Word as words
-use Rattle.vlt_lexer.specs.declared.token.TheConstants.Mark as signs
-use Rattle.vlt_lexer.specs.Spelling.{word_text, sign_text}
+use Rattle.vlt_tokens.specs.declared.token.Word.{Word}
+use Rattle.vlt_tokens.specs.declared.token.Word.TheVariants as word
+use Rattle.vlt_tokens.specs.declared.token.Mark.{Mark}
+use Rattle.vlt_tokens.specs.declared.token.Mark.TheVariants as sign
+use Rattle.vlt_tokens.specs.declared.token.TheConstants.Word as words
+use Rattle.vlt_tokens.specs.declared.token.TheConstants.Mark as signs
+use Rattle.vlt_tokens.specs.Spelling.{word_text, sign_text}
 use Rattle.vlt_lexer.specs.Steps.{item_with_text, first_beginning, with_rest, may_begin}
-use Rattle.vlt_lexer.specs.Characters.{following}
+use Rattle.vlt_tokens.specs.Characters.{following}
 
 pub word_found : (w : Word) → item_with_text word_text words.ALL (word_text w) ≡ Some w
 word_found word.Abstract = refl

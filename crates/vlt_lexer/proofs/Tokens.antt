@@ -1,11 +1,12 @@
 -- How a reading grows by one step.
 use Rattle.std.proofs.Common.{◌≡◌, ℕ, ◌+◌, ◌-◌, List, [], ◌∷◌, ◌++◌, length, take, refl, sym, ap, subst, ◌∙◌, arith, append-nil}
 use Rattle.std.specs.Str.{chars, IsUtf8}
-use Rattle.vlt_lexer.specs.declared.token.Token.{Token}
+use Rattle.vlt_tokens.specs.declared.token.Token.{Token}
 use Rattle.vlt_lexer.specs.declared.scan.Stuck.{Stuck}
 use Rattle.vlt_lexer.specs.declared.scan.Stuck.TheVariants as stuck
-use Rattle.vlt_lexer.specs.Reading.{Lexeme, IsGap, IsToken, Reads, nothing, gap, token}
-use Rattle.vlt_lexer.specs.Text.{lexeme, lexemes, StopsAt, IsRefused}
+use Rattle.vlt_tokens.specs.Lexemes.{Lexeme, lexeme, lexemes}
+use Rattle.vlt_lexer.specs.Reading.{IsGap, IsToken, Reads, nothing, gap, token}
+use Rattle.vlt_lexer.specs.Text.{StopsAt, IsRefused}
 use Rattle.vlt_lexer.specs.Places.{error_at}
 use Rattle.vlt_lexer.proofs.Bytes.{front_bytes, width_chars}
 use Rattle.vlt_lexer.proofs.Found.{Stands}

@@ -4,11 +4,11 @@ use Rattle.std.specs.Prelude.{encode_utf8_all}
 use Rattle.std.specs.Str.{bytes_eq}
 use lib.Utf8.{encode}
 use Rattle.std.proofs.lemmas.Slice.Eq.{bytes_eq-Decides}
-use Rattle.vlt_lexer.specs.declared.token.Word.{Word}
-use Rattle.vlt_lexer.specs.declared.token.TheConstants.Word as words
-use Rattle.vlt_lexer.specs.Spelling.{word_text}
-use Rattle.vlt_lexer.specs.Characters.{IsName}
-use Rattle.vlt_lexer.specs.Lexemes.{IsOf}
+use Rattle.vlt_tokens.specs.declared.token.Word.{Word}
+use Rattle.vlt_tokens.specs.declared.token.TheConstants.Word as words
+use Rattle.vlt_tokens.specs.Spelling.{word_text}
+use Rattle.vlt_tokens.specs.Characters.{IsName}
+use Rattle.vlt_tokens.specs.Lexemes.{IsOf}
 use Rattle.vlt_lexer.specs.Steps.{item_with_text, keyword_of, kind_of}
 use Rattle.vlt_lexer.proofs.Runs.{none_some}
 use Rattle.vlt_lexer.proofs.Tables.{word_found, spelled_is, spelled_passes}

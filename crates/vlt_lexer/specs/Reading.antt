@@ -1,17 +1,9 @@
 -- A text from left to right, as tokens with blanks and comments between them.
 use Rattle.std.specs.Prelude.{◌≡◌, ◌<◌, ℕ, ◌+◌, true, false, List, [], ◌∷◌, ◌++◌, Some, None, codes, encode_utf8_all}
-use Rattle.vlt_lexer.specs.declared.token.TokenKind.{TokenKind}
 use Rattle.vlt_lexer.specs.declared.scan.Stuck.{Stuck}
 use Rattle.vlt_lexer.specs.declared.scan.Stuck.TheVariants as stuck
-use Rattle.vlt_lexer.specs.Characters.{is_blank, IsDigits, value_of, after_line, after_close, width}
-use Rattle.vlt_lexer.specs.Lexemes.{IsPiece, IsLongest, IsOf, max_number}
-
--- a token: what it is, its bytes, and how many bytes of the text stand before it and before its end
-pub record Lexeme : Type 0 where
-  pub kind : TokenKind
-  pub text : List ℕ
-  pub from : ℕ
-  pub to : ℕ
+use Rattle.vlt_tokens.specs.Characters.{is_blank, IsDigits, value_of, after_line, after_close, width}
+use Rattle.vlt_tokens.specs.Lexemes.{Lexeme, IsPiece, IsLongest, IsOf, max_number}
 
 -- the text begins with a blank or a comment, after which the second stands
 pub data IsGap : List ℕ → List ℕ → Type 0 where

@@ -1,19 +1,19 @@
 -- What one step of reading finds.
 use Rattle.std.specs.Prelude.{◌≡◌, ◌<◌, ◌≤◌, ℕ, ◌==◌, ℤ, pos, Bool, true, if◌then◌else◌, List, [], ◌∷◌, ◌++◌, length, Option, Some, None, codes}
 use Rattle.std.specs.Str.{chars, bytes_eq}
-use Rattle.vlt_lexer.specs.declared.token.Word.{Word}
-use Rattle.vlt_lexer.specs.declared.token.Mark.{Mark}
-use Rattle.vlt_lexer.specs.declared.token.TokenKind.{TokenKind}
-use Rattle.vlt_lexer.specs.declared.token.TokenKind.TheVariants as kind
-use Rattle.vlt_lexer.specs.declared.token.TheConstants.Word as words
-use Rattle.vlt_lexer.specs.declared.token.TheConstants.Mark as signs
-use Rattle.vlt_lexer.specs.Spelling.{word_text, sign_text}
+use Rattle.vlt_tokens.specs.declared.token.Word.{Word}
+use Rattle.vlt_tokens.specs.declared.token.Mark.{Mark}
+use Rattle.vlt_tokens.specs.declared.token.TokenKind.{TokenKind}
+use Rattle.vlt_tokens.specs.declared.token.TokenKind.TheVariants as kind
+use Rattle.vlt_tokens.specs.declared.token.TheConstants.Word as words
+use Rattle.vlt_tokens.specs.declared.token.TheConstants.Mark as signs
+use Rattle.vlt_tokens.specs.Spelling.{word_text, sign_text}
 use Rattle.vlt_lexer.specs.declared.scan.Class.{Class}
 use Rattle.vlt_lexer.specs.declared.scan.Class.TheVariants as class
 use Rattle.vlt_lexer.specs.declared.scan.Piece.{Piece}
 use Rattle.vlt_lexer.specs.declared.scan.Piece.TheVariants as piece
-use Rattle.vlt_lexer.specs.Characters.{is_digit, is_name_start, is_name_more, following}
-use Rattle.vlt_lexer.specs.Lexemes.{IsLongest, IsOf, max_number}
+use Rattle.vlt_tokens.specs.Characters.{is_digit, is_name_start, is_name_more, following}
+use Rattle.vlt_tokens.specs.Lexemes.{IsLongest, IsOf, max_number}
 use Rattle.vlt_lexer.specs.Reading.{IsGap}
 
 abbrev pub is_in : Class → ℕ → Bool

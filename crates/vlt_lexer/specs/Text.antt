@@ -1,20 +1,14 @@
 -- Whole texts, as bytes.
-use Rattle.std.specs.Prelude.{◌≡◌, ◌<◌, ◌≤◌, ℕ, ◌+◌, List, [], ◌∷◌, length, map, slice_range}
+use Rattle.std.specs.Prelude.{◌≡◌, ◌<◌, ◌≤◌, ℕ, ◌+◌, List, [], ◌∷◌, length, slice_range}
 use Rattle.std.specs.Str.{chars, IsUtf8, IsValidUpTo}
 use Rattle.vlt_base.specs.Limits.{limit_of}
-use Rattle.vlt_lexer.specs.declared.token.Token.{Token}
 use Rattle.vlt_lexer.specs.declared.scan.Stuck.{Stuck}
 use Rattle.vlt_lexer.specs.declared.scan.Stuck.TheVariants as stuck
 use Rattle.vlt_lexer.specs.declared.LexError.{LexError}
 use Rattle.vlt_lexer.specs.declared.LexError.TheVariants as error
-use Rattle.vlt_lexer.specs.Characters.{width}
-use Rattle.vlt_lexer.specs.Reading.{Lexeme, Reads, IsStuck}
-
-abbrev pub lexeme : Token → Lexeme
-lexeme t = record { kind = t.kind; text = t.text.now; from = t.at.from; to = t.at.to }
-
-abbrev pub lexemes : List Token → List Lexeme
-lexemes ts = map lexeme ts
+use Rattle.vlt_tokens.specs.Characters.{width}
+use Rattle.vlt_tokens.specs.Lexemes.{Lexeme}
+use Rattle.vlt_lexer.specs.Reading.{Reads, IsStuck}
 
 -- The text is UTF-8, and is these tokens in order with only blanks and comments between them, each token the longest piece at its place.
 abbrev pub IsTokensOf : List ℕ → List Lexeme → Type 0

@@ -5,19 +5,18 @@
 
 ghost use Rattle.std.specs.Prelude.{◌≡◌, ◌⊎◌, ◌<◌, ◌≤◌, ◌+◌, ◌-◌, ◌^◌, List, length, take, IfOk, IfErr, MatchResult};
 ghost use Rattle.vlt_base.specs.Limits.{limit_of};
-ghost use Rattle.vlt_lexer.specs.Text.{lexemes, IsTokensOf, AreSlicesOf, IsRefused};
+ghost use Rattle.vlt_tokens.specs.Lexemes.{lexemes, Lexeme};
+ghost use Rattle.vlt_lexer.specs.Text.{IsTokensOf, AreSlicesOf, IsRefused};
 ghost use Rattle.vlt_lexer.specs.Places.{error_at};
-ghost use Rattle.vlt_lexer.specs.Reading.{Lexeme};
 ghost use Rattle.vlt_lexer.specs.declared.LexError.{LexError};
 
 mod scan;
-mod token;
 
 use scan::{Piece, Stuck, next_piece};
 use std::alloc::{AllocError, AllocFailed, Global};
 use thiserror::Error;
-pub use token::{Mark, Token, TokenKind, Word};
 use vlt_base::{Span, limit};
+use vlt_tokens::{Token, TokenKind};
 
 /// Why a text has no list of tokens. A place is the number of bytes before it.
 #[derive(Clone, Copy, Debug, PartialEq, Eq, Error)]

@@ -2,14 +2,14 @@
 
 ghost use Rattle.std.specs.Prelude.{◌≡◌, ◌≤◌, ◌<◌, ◌+◌, ◌*◌, ◌-◌, ◌++◌, ◌∷◌, ℕ, List, [], filter, length, slice_get, true, MatchOption, Some, None, IfSome, IfOk, IfErr, encode_utf8};
 ghost use Rattle.std.specs.Str.{chars};
-ghost use Rattle.vlt_lexer.specs.Characters.{is_blank, is_digit, is_name_start, is_name_more, value_of, after_line, following, after_close};
+ghost use Rattle.vlt_tokens.specs.Characters.{is_blank, is_digit, is_name_start, is_name_more, value_of, after_line, following, after_close};
 ghost use Rattle.vlt_lexer.specs.Steps.{is_in, run, past_run, past_name, item_with_text, first_beginning, may_begin, keyword_of, sign_of, kind_of, IsNoComment, Holds, IsFound, IsShorter};
-ghost use Rattle.vlt_lexer.specs.Spelling.{word_text, sign_text};
-ghost use Rattle.vlt_lexer.specs.declared.token.TheConstants.Word as words;
-ghost use Rattle.vlt_lexer.specs.declared.token.TheConstants.Mark as signs;
+ghost use Rattle.vlt_tokens.specs.Spelling.{word_text, sign_text};
+ghost use Rattle.vlt_tokens.specs.declared.token.TheConstants.Word as words;
+ghost use Rattle.vlt_tokens.specs.declared.token.TheConstants.Mark as signs;
 ghost use Rattle.vlt_lexer.specs.Reading.{IsGap, IsStuck};
 
-use crate::token::{Mark, TokenKind, Word};
+use vlt_tokens::{Mark, TokenKind, Word};
 
 /// A class of characters of which a run is taken.
 #[derive(Clone, Copy, Debug, PartialEq, Eq)]

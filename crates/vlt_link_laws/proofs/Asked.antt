@@ -6,7 +6,7 @@ use Rattle.vlt_syntax.specs.Tree.{Tree}
 use Rattle.vlt_syntax.specs.Grammar.{IsTree, language}
 use Rattle.vlt_kinds_types.specs.Kinds.{Kinds}
 use Rattle.vlt_core.specs.Core.{Program}
-use Rattle.vlt_verdict.specs.FitLaws.Fit.{IsJudgeable, IsTextTree}
+use Rattle.vlt_fit_laws.specs.Fit.{IsJudgeable, IsTextTree}
 use Rattle.vlt_iface.specs.View.{View, viewed, joined}
 use Rattle.vlt_iface.specs.Rules.{view_refused}
 use Rattle.vlt_iface.specs.Clash.{clashing}

@@ -13,7 +13,7 @@ use Rattle.vlt_kinds_heads.specs.Keys.{keys_of}
 use Rattle.vlt_kinds_heads.specs.Heads.{head_refused}
 use Rattle.vlt_kinds_heads.specs.Phase.{extern_refused, heads_refused_in, core_head}
 use Rattle.vlt_kinds_types.specs.Kinds.{Kinds}
-use Rattle.vlt_resolve.specs.Elaboration.{walk_function}
+use Rattle.vlt_elaboration.specs.Elaboration.{walk_function}
 use Rattle.vlt_link_laws.specs.Moves.Sees.{Sees, AreFree}
 use Rattle.vlt_link_laws.proofs.OfMoves.Empty.{cons_not_nil, no_left, no_right, none_of_both}
 use Rattle.vlt_link_laws.proofs.OfMoves.HeadRules.{head_fine}

@@ -26,7 +26,7 @@ use Rattle.vlt_kinds_heads.specs.Heads.{Seen, is_repeated, with_name, name_refus
 use Rattle.vlt_kinds_heads.specs.Phase.{extern_refused, heads_refused_in}
 use Rattle.vlt_kinds_types.specs.Kinds.{Kinds}
 use Rattle.vlt_kinds.specs.Tables.{kinds_of}
-use Rattle.vlt_resolve.specs.Elaboration.{stmts_in}
+use Rattle.vlt_elaboration.specs.Elaboration.{stmts_in}
 use Rattle.vlt_iface.specs.View.{others, view_decls}
 use Rattle.vlt_iface.specs.Rules.{body_refused}
 use Rattle.vlt_iface.specs.Clash.{keys_in, bound_names, block_bound, if_bound, else_bound, stmts_bound, arms_bound, entry_key, entry_variables, result_keys, clause_names, head_bound, decl_bound}

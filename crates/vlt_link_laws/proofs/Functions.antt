@@ -15,9 +15,9 @@ use Rattle.vlt_kinds_types.specs.Names.Refusals.{refuse_if, least}
 use Rattle.vlt_kinds_types.specs.Kinds.{Kinds}
 use Rattle.vlt_resolve_exprs.specs.declared.limits.TheConstants.{TOO_MANY_VARIABLES, TOO_MANY_KEYS}
 use Rattle.vlt_resolve_exprs.specs.Scopes.{Scope, with_name}
-use Rattle.vlt_resolve.specs.Walk.Blocks.{block_ends, closing}
-use Rattle.vlt_resolve.specs.Walk.Walk.{then_do, unless_refused, walk_stmts}
-use Rattle.vlt_resolve.specs.Elaboration.{is_fresh_key, with_key_names, with_var_names, nameless_scope, body_scope, body_around, stmts_in, head_refused, end_refused, last_return, func_made, walk_body, walk_function}
+use Rattle.vlt_elaboration.specs.Blocks.{block_ends, closing}
+use Rattle.vlt_elaboration.specs.Walk.{then_do, unless_refused, walk_stmts}
+use Rattle.vlt_elaboration.specs.Elaboration.{is_fresh_key, with_key_names, with_var_names, nameless_scope, body_scope, body_around, stmts_in, head_refused, end_refused, last_return, func_made, walk_body, walk_function}
 use Rattle.vlt_link_laws.specs.Moves.Sees.{Sees, moved_scope}
 use Rattle.vlt_link_laws.specs.Moves.Apt.{IsAptStmts}
 use Rattle.vlt_link_laws.specs.Moves.Whole.{InRange, AreInRange, IsWhole}

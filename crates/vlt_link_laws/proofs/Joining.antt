@@ -17,7 +17,7 @@ use Rattle.vlt_syntax_copies.proofs.Tokens.{each_decl, all_decls}
 use Rattle.vlt_iface.specs.declared.places.TheConstants.{RAISE}
 use Rattle.vlt_iface.specs.View.{joined}
 use Rattle.vlt_iface.proofs.Raising.{decl_is}
-use Rattle.vlt_verdict.specs.FitLaws.Fit.{IsTextTree}
+use Rattle.vlt_fit_laws.specs.Fit.{IsTextTree}
 use Rattle.vlt_link_laws.proofs.Placed.{each_join}
 use Rattle.vlt_link_laws.proofs.Texts.{in_view, raised_ticks}
 

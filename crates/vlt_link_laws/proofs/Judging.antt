@@ -9,7 +9,7 @@ use Rattle.vlt_core_laws.specs.Fit.{IsWellFormed}
 use Rattle.vlt_kinds_types.specs.Files.{file_of}
 use Rattle.vlt_kinds_types.specs.Kinds.{Kinds}
 use Rattle.vlt_kinds.specs.Tables.{kinds_of}
-use Rattle.vlt_resolve.specs.Elaboration.{main_of}
+use Rattle.vlt_elaboration.specs.Elaboration.{main_of}
 use Rattle.vlt_resolve_laws.specs.KindsLaws.Declared as declared
 use Rattle.vlt_resolve_laws.proofs.Made.{made_at}
 use Rattle.vlt_resolve_laws.proofs.Arms.{func_arms}
@@ -20,9 +20,9 @@ use Rattle.vlt_resolve_laws.proofs.FewKeys as keys
 use Rattle.vlt_resolve_laws.proofs.FewFunctions.{few_heads, as_many}
 use Rattle.vlt_resolve_laws.proofs.Whole.{Facts, AreFine, kinded_but_main}
 use Rattle.vlt_sound.specs.Sizes.{HasSizes}
-use Rattle.vlt_verdict.specs.FitLaws.Fit.{HasFewParts, IsJudgeable, IsTextTree}
-use Rattle.vlt_verdict.proofs.OfFitLaws.Sets.{has_sizes}
-use Rattle.vlt_verdict.proofs.OfFitLaws.Fields.{has_few_fields}
+use Rattle.vlt_fit_laws.specs.Fit.{HasFewParts, IsJudgeable, IsTextTree}
+use Rattle.vlt_fit_laws.proofs.Sets.{has_sizes}
+use Rattle.vlt_fit_laws.proofs.Fields.{has_few_fields}
 use Rattle.vlt_syntax_copies.specs.Raised.{raised}
 use Rattle.vlt_iface.specs.declared.places.TheConstants.{RAISE}
 use Rattle.vlt_iface.specs.View.{view_decls, viewed}

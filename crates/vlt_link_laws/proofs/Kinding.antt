@@ -13,14 +13,14 @@ use Rattle.vlt_kinds_decls.specs.Decls.{types_refused}
 use Rattle.vlt_kinds_heads.specs.Phase.{heads_refused, core_heads}
 use Rattle.vlt_kinds_types.specs.Kinds.{Kinds}
 use Rattle.vlt_kinds.specs.Tables.{kinds_of}
-use Rattle.vlt_resolve.specs.Elaboration.{is_main, main_of}
+use Rattle.vlt_elaboration.specs.Elaboration.{is_main, main_of}
 use Rattle.vlt_resolve_laws.proofs.Whole.{MainAt, main_is, some_main, Facts, AreFine, facts_walked, kinded_but_main, kinded}
 use Rattle.vlt_syntax_copies.specs.Raised.{raised}
 use Rattle.vlt_iface.specs.declared.places.TheConstants.{RAISE}
 use Rattle.vlt_iface.specs.View.{view_decls, origins_in, viewed}
 use Rattle.vlt_link_laws.proofs.Parts.{program_of}
 use Rattle.vlt_views.specs.Views.{view_kinds_told, view_elaborated}
-use Rattle.vlt_verdict.specs.FitLaws.Fit.{IsTextTree}
+use Rattle.vlt_fit_laws.specs.Fit.{IsTextTree}
 use Rattle.vlt_link_laws.proofs.Texts.{view_language, view_ticks}
 use Rattle.vlt_link_laws.proofs.Telling.{ViewFine, view_fine, ViewWalked, view_walked}
 

@@ -20,7 +20,7 @@ use Rattle.vlt_kinds_decls.specs.Decls.{type_refused}
 use Rattle.vlt_kinds_heads.specs.Phase.{heads_refused_in}
 use Rattle.vlt_kinds_types.specs.Kinds.{Kinds}
 use Rattle.vlt_kinds.specs.Tables.{kinds_of}
-use Rattle.vlt_resolve.specs.Elaboration.{walk_decls}
+use Rattle.vlt_elaboration.specs.Elaboration.{walk_decls}
 use Rattle.vlt_link_laws.specs.Moves.Joins.{Joins, befores, afters, moves_of}
 use Rattle.vlt_link_laws.specs.Moves.Sees.{Sees}
 use Rattle.vlt_link_laws.proofs.Given.{IfSome, none_each, each_both, each_map, each_before}

@@ -21,7 +21,7 @@ use Rattle.vlt_kinds_heads.specs.Externals.{cases_named, external_refused}
 use Rattle.vlt_kinds_heads.specs.Phase.{heads_refused_in}
 use Rattle.vlt_kinds_types.specs.Kinds.{Kinds}
 use Rattle.vlt_kinds.specs.Tables.{kinds_of, kinds_told}
-use Rattle.vlt_resolve.specs.Elaboration.{stmts_in, walk_decls, elaborated}
+use Rattle.vlt_elaboration.specs.Elaboration.{stmts_in, walk_decls, elaborated}
 use Rattle.vlt_link_laws.specs.Moves.Joins.{Join, Joins, befores, afters, moves_of}
 use Rattle.vlt_link_laws.specs.Moves.Sees.{AreFree}
 use Rattle.vlt_link_laws.specs.Moves.Apt.{IsAptStmts}

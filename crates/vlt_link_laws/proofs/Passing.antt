@@ -20,7 +20,7 @@ use Rattle.vlt_kinds_types.specs.Files.{file_of}
 use Rattle.vlt_kinds_decls.specs.Decls.{type_refused}
 use Rattle.vlt_kinds_heads.specs.Phase.{heads_refused_in}
 use Rattle.vlt_kinds.specs.Tables.{kinds_of}
-use Rattle.vlt_resolve.specs.Elaboration.{walk_decls, main_of}
+use Rattle.vlt_elaboration.specs.Elaboration.{walk_decls, main_of}
 use Rattle.vlt_syntax_copies.specs.Raised.{raised}
 use Rattle.vlt_iface.specs.declared.places.TheConstants.{RAISE}
 use Rattle.vlt_iface.specs.View.{gives, with_given, others, view_decls, origins_in, viewed, joined}
@@ -33,7 +33,7 @@ use Rattle.vlt_views.specs.Hidden.{hidden_names, own_refused_in, own_refused}
 use Rattle.vlt_link_laws.proofs.Parts.{IsFreeDecl, HostStays, IsSame, Covers, IsLinked, program_of}
 use Rattle.vlt_link_laws.proofs.Sides.{first_joins, second_joins, IsApart, IsView}
 use Rattle.vlt_views.specs.Views.{view_elaborated}
-use Rattle.vlt_verdict.specs.FitLaws.Fit.{IsTextTree}
+use Rattle.vlt_fit_laws.specs.Fit.{IsTextTree}
 use Rattle.vlt_link_laws.specs.Link.{IsPassed, IsAcceptedText}
 use Rattle.vlt_link_laws.proofs.Joining.{joined_text}
 use Rattle.vlt_link_laws.proofs.Given.{each_map, each_both, each_none}

@@ -12,8 +12,8 @@ use Rattle.vlt_kinds_types.specs.Files.{file_of}
 use Rattle.vlt_kinds_decls.specs.Decls as decls
 use Rattle.vlt_kinds_heads.specs.Phase.{heads_refused_in, heads_refused}
 use Rattle.vlt_kinds.specs.Tables.{kinds_of, unless, heads_told, types_told, kinds_told}
-use Rattle.vlt_resolve.specs.Walk.Walk.{then_do}
-use Rattle.vlt_resolve.specs.Elaboration.{main_of, with_told}
+use Rattle.vlt_elaboration.specs.Walk.{then_do}
+use Rattle.vlt_elaboration.specs.Elaboration.{main_of, with_told}
 use Rattle.vlt_link_laws.specs.Moves.Joins.{Joins, befores, afters}
 use Rattle.vlt_link_laws.proofs.OfMoves.Empty.{none_of_both, not_broken, not_false}
 use Rattle.vlt_link_laws.proofs.Fits.{IsGiven, FitsIf, Fits}

@@ -14,7 +14,7 @@ use Rattle.vlt_kinds_types.specs.Files.{file_of}
 use Rattle.vlt_kinds_decls.specs.Decls.{type_refused}
 use Rattle.vlt_kinds_heads.specs.Phase.{heads_refused_in}
 use Rattle.vlt_kinds.specs.Tables.{kinds_of}
-use Rattle.vlt_resolve.specs.Elaboration.{walk_decls}
+use Rattle.vlt_elaboration.specs.Elaboration.{walk_decls}
 use Rattle.vlt_iface.specs.View.{gives, others}
 use Rattle.vlt_link_laws.specs.Moves.Joins.{Joins, befores, afters, moves_of}
 use Rattle.vlt_link_laws.proofs.Parts.{IsFreeDecl, HostStays, IsSame, program_of}

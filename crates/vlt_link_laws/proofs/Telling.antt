@@ -17,7 +17,7 @@ use Rattle.vlt_kinds_decls.specs.Decls.{type_refused, types_refused}
 use Rattle.vlt_kinds_heads.specs.Phase.{heads_refused_in, heads_refused}
 use Rattle.vlt_kinds_types.specs.Kinds.{Kinds}
 use Rattle.vlt_kinds.specs.Tables.{kinds_of, unless}
-use Rattle.vlt_resolve.specs.Elaboration.{walk_decls, main_of, walk_tree, Told, broken, told_of, with_told}
+use Rattle.vlt_elaboration.specs.Elaboration.{walk_decls, main_of, walk_tree, Told, broken, told_of, with_told}
 use Rattle.vlt_syntax_copies.specs.Raised.{raised}
 use Rattle.vlt_iface.specs.declared.places.TheConstants.{RAISE}
 use Rattle.vlt_iface.specs.View.{View}

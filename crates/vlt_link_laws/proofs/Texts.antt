@@ -10,7 +10,7 @@ use Rattle.vlt_syntax_copies.specs.Raised.{raised, raised_case}
 use Rattle.vlt_iface.specs.declared.places.TheConstants.{RAISE}
 use Rattle.vlt_iface.specs.View.{gives, with_given, others, view_decls}
 use Rattle.vlt_iface.proofs.Raising.{decl_is}
-use Rattle.vlt_verdict.specs.FitLaws.Fit.{IsTextTree}
+use Rattle.vlt_fit_laws.specs.Fit.{IsTextTree}
 use Rattle.vlt_link_laws.proofs.Apart.{each_others, each_found}
 use Rattle.vlt_link_laws.proofs.Placed.{each_join}
 

@@ -10,8 +10,8 @@ use Rattle.vlt_kinds_types.specs.Names.Refusals.{of_each}
 use Rattle.vlt_kinds_heads.specs.Keys.{keys_of}
 use Rattle.vlt_kinds_heads.specs.Phase.{core_head, core_heads_in}
 use Rattle.vlt_kinds_types.specs.Kinds.{Kinds}
-use Rattle.vlt_resolve.specs.Walk.Walk.{then_do}
-use Rattle.vlt_resolve.specs.Elaboration.{is_function, walk_function, walk_decls}
+use Rattle.vlt_elaboration.specs.Walk.{then_do}
+use Rattle.vlt_elaboration.specs.Elaboration.{is_function, walk_function, walk_decls}
 use Rattle.vlt_link_laws.proofs.Functions.{then_ok, same_ok, clause_kept}
 use Rattle.vlt_link_laws.proofs.Given.{each_map}
 

@@ -11,12 +11,12 @@ use Rattle.vlt_core.specs.Kinded.{HasKindedParts, IsKinded}
 use Rattle.vlt_core.specs.Derives.{IsAccepted}
 use Rattle.vlt_kinds_types.specs.Kinds.{Kinds}
 use Rattle.vlt_kinds.specs.Tables.{kinds_told}
-use Rattle.vlt_resolve.specs.Elaboration.{elaborated}
+use Rattle.vlt_elaboration.specs.Elaboration.{elaborated}
 use Rattle.vlt_iface.specs.View.{View, viewed, joined}
 use Rattle.vlt_iface.specs.Rules.{view_refused}
 use Rattle.vlt_iface.specs.Told.{view_told, joined_told}
 use Rattle.vlt_iface.specs.Clash.{clashing}
-use Rattle.vlt_verdict.specs.FitLaws.Fit.{IsTextTree, IsJudgeable}
+use Rattle.vlt_fit_laws.specs.Fit.{IsTextTree, IsJudgeable}
 use Rattle.vlt_views.specs.Views.{view_kinds_told, view_elaborated}
 
 -- The view of the interface with this module passes all rules, that on main only where it is wanted, and is accepted.

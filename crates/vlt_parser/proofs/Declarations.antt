@@ -1,16 +1,16 @@
 -- What the automaton does with declarations.
 use Rattle.std.proofs.Common.{◌≡◌, ◌≤◌, ◌-◌, ◌+◌, ◌==◌, ◌<◌, if◌then◌else◌, length, ℕ, zero, suc, Bool, true, false, List, [], ◌∷◌, ◌++◌, Some, ◌⊎◌, inl, inr, Err, refl, sym, ap, subst, ◌∙◌, arith, append_assoc}
 use Rattle.std.proofs.lemmas.Bool.{true≢false, eq-eqb, ne_eqb}
-use Rattle.vlt_lexer.specs.declared.token.Word.{Word}
-use Rattle.vlt_lexer.specs.declared.token.Word.TheVariants as word
-use Rattle.vlt_lexer.specs.declared.token.Mark.TheVariants as mark
+use Rattle.vlt_tokens.specs.declared.token.Word.{Word}
+use Rattle.vlt_tokens.specs.declared.token.Word.TheVariants as word
+use Rattle.vlt_tokens.specs.declared.token.Mark.TheVariants as mark
 use Rattle.vlt_syntax.specs.Tokens as t
 use Rattle.vlt_syntax.specs.Tokens.{Token}
 use Rattle.vlt_automaton.specs.Language as m
 use Rattle.vlt_syntax.specs.Grammar.{language}
 use Rattle.vlt_automaton.specs.Language.{Symbol, Reaction, Left, Located, run, with_after, go_on_with}
 use Rattle.vlt_automaton.proofs.Sameness.{same_word-refl}
-use Rattle.vlt_lexer.specs.declared.token.Token.{Token as CodeToken}
+use Rattle.vlt_tokens.specs.declared.token.Token.{Token as CodeToken}
 use Rattle.vlt_parser_exprs.specs.declared.lists.Most.{Most}
 use Rattle.vlt_parser_exprs.specs.declared.error.ParseError.{ParseError}
 use Rattle.vlt_parser_exprs.specs.declared.error.ParseError.TheVariants.{Limit}

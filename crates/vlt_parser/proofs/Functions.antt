@@ -1,7 +1,7 @@
 -- What the automaton does with heads of functions.
 use Rattle.std.proofs.Common.{Option, Some, ◌≡◌, List, [], ◌∷◌, None, refl, sym, ap, ◌∙◌}
-use Rattle.vlt_lexer.specs.declared.token.Word.TheVariants as word
-use Rattle.vlt_lexer.specs.declared.token.Mark.TheVariants as mark
+use Rattle.vlt_tokens.specs.declared.token.Word.TheVariants as word
+use Rattle.vlt_tokens.specs.declared.token.Mark.TheVariants as mark
 use Rattle.vlt_syntax.specs.Tokens as t
 use Rattle.vlt_syntax.specs.Grammar.{language}
 use Rattle.vlt_automaton.specs.Language as m

@@ -1,12 +1,11 @@
 -- The tokens of a text and those of the code.
 use Rattle.std.proofs.Common.{◌≡◌, List, [], ◌∷◌, refl, ap, map}
-use Rattle.vlt_lexer.specs.declared.token.Token.{Token as CodeToken}
-use Rattle.vlt_lexer.specs.Text.{lexeme, lexemes}
+use Rattle.vlt_tokens.specs.declared.token.Token.{Token as CodeToken}
+use Rattle.vlt_tokens.specs.Lexemes.{lexeme, lexemes, Lexeme}
 use Rattle.vlt_syntax.specs.Tokens.{token_of, tokens_of, tokens_in}
 use Rattle.vlt_automaton.specs.Language as m
 use Rattle.vlt_parser_exprs.specs.declared.error.ParseError.{ParseError}
 use Rattle.vlt_parser_exprs.specs.declared.error.ParseError.TheVariants as error
-use Rattle.vlt_lexer.specs.Reading.{Lexeme}
 use Rattle.vlt_syntax_laws.proofs.Refused.{refused}
 use Rattle.vlt_parser.specs.Refusals.{IsRefusedFor}
 use Rattle.vlt_parser_exprs.specs.Ahead.{lexemes_from, Fails}

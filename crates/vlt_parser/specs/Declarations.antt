@@ -1,8 +1,8 @@
 -- What parts of the parser say of declarations.
 use Rattle.std.specs.Prelude.{◌≡◌, ◌-◌, ℕ, Bool, true, false, List, [], ◌∷◌, Option, Result, Ok, Err}
-use Rattle.vlt_lexer.specs.declared.token.Mark.TheVariants as mark
-use Rattle.vlt_lexer.specs.declared.token.Word.TheVariants as word
-use Rattle.vlt_lexer.specs.declared.token.Token.{Token as CodeToken}
+use Rattle.vlt_tokens.specs.declared.token.Mark.TheVariants as mark
+use Rattle.vlt_tokens.specs.declared.token.Word.TheVariants as word
+use Rattle.vlt_tokens.specs.declared.token.Token.{Token as CodeToken}
 use Rattle.vlt_syntax.specs.Tokens.{Token, sign, keyword}
 use Rattle.vlt_syntax.specs.Tree.{Name, States, HeaderKey}
 use Rattle.vlt_syntax.specs.Spelling.{name_then, at_states_then, marked_name_then, header_then}

@@ -1,6 +1,6 @@
 -- What a head has before its parameters.
 use Rattle.std.specs.Prelude.{List, ◌∷◌}
-use Rattle.vlt_lexer.specs.declared.token.Mark.TheVariants as mark
+use Rattle.vlt_tokens.specs.declared.token.Mark.TheVariants as mark
 use Rattle.vlt_syntax.specs.Tokens.{Token, sign}
 use Rattle.vlt_syntax.specs.Tree.{Name, ResultType}
 use Rattle.vlt_syntax.specs.Spelling.{name_then, result_type_then}

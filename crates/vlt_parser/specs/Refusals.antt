@@ -1,6 +1,6 @@
 -- The refusal that an error tells.
 use Rattle.std.specs.Prelude.{List}
-use Rattle.vlt_lexer.specs.Reading.{Lexeme}
+use Rattle.vlt_tokens.specs.Lexemes.{Lexeme}
 use Rattle.vlt_syntax.specs.Refusals.{IsRefusal, unexpected_at, over_limit, ended}
 use Rattle.vlt_parser_exprs.specs.declared.error.ParseError.{ParseError}
 use Rattle.vlt_parser_exprs.specs.declared.error.ParseError.TheVariants as error

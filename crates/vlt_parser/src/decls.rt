@@ -1,8 +1,8 @@
 //! Declarations.
 
 ghost use Rattle.std.specs.Prelude.{◌≡◌, ◌∷◌, [], ◌≤◌, length, map, IfOk, IfSome, option_map};
-ghost use Rattle.vlt_lexer.specs.declared.token.Word.TheVariants.{Stateset, Abstract, Struct, Variant, Extern};
-ghost use Rattle.vlt_lexer.specs.declared.token.Mark.TheVariants.{At, OpenBrace, CloseBrace, Semicolon};
+ghost use Rattle.vlt_tokens.specs.declared.token.Word.TheVariants.{Stateset, Abstract, Struct, Variant, Extern};
+ghost use Rattle.vlt_tokens.specs.declared.token.Mark.TheVariants.{At, OpenBrace, CloseBrace, Semicolon};
 ghost use Rattle.vlt_syntax.specs.Tokens.{tokens_of};
 ghost use Rattle.vlt_syntax.specs.Lists.{each_then, Each};
 ghost use Rattle.vlt_syntax.specs.Spelling.{field_then, release_then, decl_then};
@@ -20,7 +20,6 @@ use crate::heads::head;
 use crate::sets::set_states;
 use std::alloc::Global;
 use vlt_base::{CASES, DECLARATIONS, DEPTH, FIELDS, Items, limit};
-use vlt_lexer::{Mark, Token, TokenKind, Word};
 use vlt_parser_exprs::ParseError;
 use vlt_parser_exprs::headers::header;
 use vlt_parser_exprs::lists::{allow_one_more, bound, some_listed};
@@ -28,6 +27,7 @@ use vlt_parser_exprs::tokens::{keyword, kind, name, sign, span, unexpected};
 use vlt_parser_exprs::types::{at_states, marked_name, states, ty};
 use vlt_parser_stmts::block;
 use vlt_syntax::{Decl, Field, HeaderKey, Name, States};
+use vlt_tokens::{Mark, Token, TokenKind, Word};
 
 /// What a field has after its type.
 #[derive(Drop)]

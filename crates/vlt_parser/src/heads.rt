@@ -1,7 +1,7 @@
 //! Heads of functions, with their clauses.
 
 ghost use Rattle.std.specs.Prelude.{◌≡◌, ◌∷◌, [], ◌≤◌, length, map, option_map, IfOk};
-ghost use Rattle.vlt_lexer.specs.declared.token.Mark.TheVariants.{OpenParen};
+ghost use Rattle.vlt_tokens.specs.declared.token.Mark.TheVariants.{OpenParen};
 ghost use Rattle.vlt_syntax.specs.Lists.{Each};
 ghost use Rattle.vlt_syntax.specs.Spelling.{result_type_then, clause_then, head_then};
 ghost use Rattle.vlt_syntax.specs.Grammar.{IsEntry, IsResultType, IsHead, language};
@@ -14,12 +14,12 @@ ghost use Rattle.vlt_parser_exprs.specs.Promises.{Advances, Holds, Lies, MayAdva
 
 use std::alloc::Global;
 use vlt_base::{Items, PARAMETERS};
-use vlt_lexer::{Mark, Token, TokenKind, Word};
 use vlt_parser_exprs::ParseError;
 use vlt_parser_exprs::lists::{bound, listed};
 use vlt_parser_exprs::tokens::{after_sign, kind, name, sign, span};
 use vlt_parser_exprs::types::ty;
 use vlt_syntax::{Entry, Head, Name, ResultType};
+use vlt_tokens::{Mark, Token, TokenKind, Word};
 
 #[tactic(auto, using(crate::proofs::Functions::result_type_void))]
 fn result_type(

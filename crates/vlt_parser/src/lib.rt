@@ -4,7 +4,7 @@
 #![tactic(auto)]
 
 ghost use Rattle.std.specs.Prelude.{IfOk, IfErr};
-ghost use Rattle.vlt_lexer.specs.Text.{lexemes};
+ghost use Rattle.vlt_tokens.specs.Lexemes.{lexemes};
 ghost use Rattle.vlt_syntax.specs.Grammar.{IsPlacedTreeOf};
 ghost use Rattle.vlt_syntax.specs.View.{tree_of};
 ghost use Rattle.vlt_parser.specs.Refusals.{IsRefusedFor};
@@ -14,9 +14,9 @@ mod heads;
 mod sets;
 
 use std::alloc::Global;
-use vlt_lexer::Token;
 pub use vlt_parser_exprs::ParseError;
 use vlt_syntax::Tree;
+use vlt_tokens::Token;
 
 /// Reads all of the tokens as one file.
 ///

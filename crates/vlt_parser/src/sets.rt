@@ -1,7 +1,7 @@
 //! The states of a set.
 
 ghost use Rattle.std.specs.Prelude.{◌≡◌, ◌∷◌, ◌+◌, [], map, IfErr, IfOk};
-ghost use Rattle.vlt_lexer.specs.declared.token.Mark.TheVariants.{Comma, Less};
+ghost use Rattle.vlt_tokens.specs.declared.token.Mark.TheVariants.{Comma, Less};
 ghost use Rattle.vlt_syntax.specs.Tokens.{sign as a_sign};
 ghost use Rattle.vlt_syntax.specs.Lists.{IsFilled};
 ghost use Rattle.vlt_syntax.specs.Spelling.{set_states_then, state_sign};
@@ -16,11 +16,11 @@ ghost use Rattle.vlt_parser_exprs.specs.Reading.{tokens_from};
 
 use std::alloc::Global;
 use vlt_base::{Items, STATES};
-use vlt_lexer::{Mark, Token};
 use vlt_parser_exprs::ParseError;
 use vlt_parser_exprs::lists::{allow_one_more, bound};
 use vlt_parser_exprs::tokens::{after_sign, name, sign};
 use vlt_syntax::SetState;
+use vlt_tokens::{Mark, Token};
 
 /// The sign before a further state: whether it is a `<`, and the position after it.
 fn state_link(tokens: &[Token<'_>], at: usize) -> Result<(bool, usize), ParseError>

@@ -1,6 +1,6 @@
 -- Lists whose things are read one by one stand where they are read.
 use Rattle.std.proofs.Common.{◌≡◌, ℕ, ◌+◌, List, [], ◌∷◌, ◌++◌, sym, ap, ◌∙◌, subst, map, append_assoc, ◌≤◌, length, arith}
-use Rattle.vlt_lexer.specs.declared.token.Token.{Token as CodeToken}
+use Rattle.vlt_tokens.specs.declared.token.Token.{Token as CodeToken}
 use Rattle.vlt_syntax.specs.Places.{Placing, each_at, further_at, listed_at}
 use Rattle.vlt_parser_exprs.specs.Reading.{spans, Stands}
 use Rattle.vlt_parser_exprs.proofs.Separated.{pushed}

@@ -1,8 +1,8 @@
 -- Lists that are read thing by thing.
 use Rattle.std.proofs.Common.{◌≡◌, List, [], ◌∷◌, ◌++◌, sym, ap, ◌∙◌, map, append_assoc}
 use Rattle.std.proofs.lemmas.List.{map-append}
-use Rattle.vlt_lexer.specs.declared.token.Mark.{Mark}
-use Rattle.vlt_lexer.specs.declared.token.Mark.TheVariants.{Comma}
+use Rattle.vlt_tokens.specs.declared.token.Mark.{Mark}
+use Rattle.vlt_tokens.specs.declared.token.Mark.TheVariants.{Comma}
 use Rattle.vlt_syntax.specs.Tokens.{Token, sign}
 use Rattle.vlt_syntax.specs.Lists.{further_then, listed_then, Each, IsFilled}
 

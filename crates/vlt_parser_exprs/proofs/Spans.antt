@@ -1,8 +1,8 @@
 -- The spans of single tokens.
 use Rattle.std.proofs.Common.{◌≡◌, ℕ, zero, suc, ◌+◌, ◌-◌, List, [], ◌∷◌, map, refl, sym, ap, ◌∙◌, arith, slice_index_or}
 use Rattle.vlt_base.specs.declared.places.Span.{Span}
-use Rattle.vlt_lexer.specs.declared.token.Token.{Token as CodeToken}
-use Rattle.vlt_lexer.specs.Text.{lexemes}
+use Rattle.vlt_tokens.specs.declared.token.Token.{Token as CodeToken}
+use Rattle.vlt_tokens.specs.Lexemes.{lexemes}
 use Rattle.vlt_syntax.specs.Tree.{Name}
 use Rattle.vlt_syntax.specs.Places.{name_at}
 use Rattle.vlt_parser_exprs.specs.Reading.{spans, Stands}

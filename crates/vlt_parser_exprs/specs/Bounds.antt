@@ -1,6 +1,6 @@
 -- What an entry with a bound has after its opening parenthesis.
 use Rattle.std.specs.Prelude.{List, ◌∷◌}
-use Rattle.vlt_lexer.specs.declared.token.Mark.TheVariants as mark
+use Rattle.vlt_tokens.specs.declared.token.Mark.TheVariants as mark
 use Rattle.vlt_syntax.specs.Tokens.{Token, sign}
 use Rattle.vlt_syntax.specs.Tree.{Name}
 use Rattle.vlt_syntax.specs.Spelling.{name_then}

@@ -1,8 +1,8 @@
 -- The facts that a part of the parser promises: of what it made where it made something, and what the automaton does either way.
 use Rattle.std.specs.Prelude.{◌≡◌, ◌+◌, ℕ, List, ◌∷◌, Option, IfOk, IfSome, Result}
 use Rattle.vlt_ops.specs.declared.Op.{Op}
-use Rattle.vlt_lexer.specs.declared.token.TokenKind.{TokenKind}
-use Rattle.vlt_lexer.specs.declared.token.Token.{Token as CodeToken}
+use Rattle.vlt_tokens.specs.declared.token.TokenKind.{TokenKind}
+use Rattle.vlt_tokens.specs.declared.token.Token.{Token as CodeToken}
 use Rattle.vlt_syntax.specs.Tokens.{Token}
 use Rattle.vlt_syntax.specs.Places.{Placing}
 use Rattle.vlt_automaton.specs.Language.{Symbol}

@@ -1,10 +1,10 @@
 -- What a part of the parser says of the tokens before it.
 use Rattle.std.specs.Prelude.{◌≡◌, ◌<◌, ◌≤◌, ℕ, List, length, drop, Option, Some, None}
-use Rattle.vlt_lexer.specs.declared.token.Token.{Token as CodeToken}
+use Rattle.vlt_tokens.specs.declared.token.Token.{Token as CodeToken}
 use Rattle.vlt_parser_exprs.specs.declared.lists.Most.{Most}
 use Rattle.vlt_syntax.specs.Tokens.{Token, tokens_of}
 use Rattle.vlt_syntax.specs.Places.{Spans, Placing, span_in}
-use Rattle.vlt_lexer.specs.Text.{lexemes}
+use Rattle.vlt_tokens.specs.Lexemes.{lexemes}
 
 -- the tokens from a position on
 abbrev pub tokens_from : List CodeToken → ℕ → List Token

@@ -2,7 +2,7 @@
 
 ghost use Rattle.std.specs.Prelude.{◌≡◌, ◌≢◌, ◌∷◌, [], ◌+◌, ◌<◌, ◌≤◌, ℕ, suc, List, IfOk, IfErr, IfSome, IfNone, Some};
 ghost use Rattle.vlt_ops.specs.Operator.{row_of};
-ghost use Rattle.vlt_lexer.specs.declared.token.Mark.TheVariants.{OpenParen};
+ghost use Rattle.vlt_tokens.specs.declared.token.Mark.TheVariants.{OpenParen};
 ghost use Rattle.vlt_syntax.specs.Tokens.{sign as a_sign};
 ghost use Rattle.vlt_syntax.specs.Tree.{Expr as SeenExpr, Init as SeenInit, binary as a_binary};
 ghost use Rattle.vlt_syntax.specs.Spelling.{sign_of, operator_of, prefix_of, expr_then, init_then};
@@ -20,9 +20,9 @@ use crate::lists::Part;
 use crate::tokens::{after_sign, kind, name, next_sign, sign, span, unexpected};
 use std::alloc::Global;
 use vlt_base::{Boxed, DEPTH, Span, limit};
-use vlt_lexer::{Mark, Token, TokenKind, Word};
 use vlt_ops::{Op, row};
 use vlt_syntax::{Expr, Init, Operands};
+use vlt_tokens::{Mark, Token, TokenKind, Word};
 
 /// An expression with its depth, from 1.
 #[derive(Drop)]

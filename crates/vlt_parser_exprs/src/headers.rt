@@ -15,8 +15,8 @@ use crate::tokens::{case_name, name, span};
 use crate::types::marked_name;
 use std::alloc::Global;
 use vlt_base::{Items, PARAMETERS, PAYLOADS};
-use vlt_lexer::{Mark, Token};
 use vlt_syntax::{Case, HeaderKey};
+use vlt_tokens::{Mark, Token};
 
 impl Part for HeaderKey {
     ghost Seen = { SeenHeaderKey };

@@ -17,8 +17,8 @@ use crate::error::ParseError;
 use crate::tokens::{after_sign, name, sign};
 use std::alloc::Global;
 use vlt_base::{Items, limit};
-use vlt_lexer::{Mark, Token};
 use vlt_syntax::Name;
+use vlt_tokens::{Mark, Token};
 
 /// A thing that stands in lists.
 pub trait Part: Sized + Drop {

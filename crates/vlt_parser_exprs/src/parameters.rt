@@ -1,7 +1,7 @@
 //! Parameters of functions, and entries of their clauses.
 
 ghost use Rattle.std.specs.Prelude.{◌≡◌, ◌∷◌, [], IfOk};
-ghost use Rattle.vlt_lexer.specs.declared.token.Mark.TheVariants.{CloseParen, LessEqual};
+ghost use Rattle.vlt_tokens.specs.declared.token.Mark.TheVariants.{CloseParen, LessEqual};
 ghost use Rattle.vlt_syntax.specs.Tree.{Entry as SeenEntry, Parameter as SeenParameter};
 ghost use Rattle.vlt_syntax.specs.Spelling.{entry_then, parameter_then};
 ghost use Rattle.vlt_syntax.specs.Grammar.{IsEntry, IsParameter};
@@ -17,8 +17,8 @@ use crate::lists::Part;
 use crate::tokens::{after_sign, kind, name, sign, span};
 use crate::types::{key_states, states, ty};
 use std::alloc::Global;
-use vlt_lexer::{Mark, Token, TokenKind, Word};
 use vlt_syntax::{Entry, KeyStates, Name, Parameter};
+use vlt_tokens::{Mark, Token, TokenKind, Word};
 
 impl Part for Parameter {
     ghost Seen = { SeenParameter };

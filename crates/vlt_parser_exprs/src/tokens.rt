@@ -14,8 +14,8 @@ ghost use Rattle.vlt_parser_exprs.specs.Promises.{Advances, Comes, KindComes, Li
 use crate::error::ParseError;
 use std::alloc::Global;
 use vlt_base::Span;
-use vlt_lexer::{Mark, Token, TokenKind, Word};
 use vlt_syntax::{Name, NameText};
+use vlt_tokens::{Mark, Token, TokenKind, Word};
 
 /// Why nothing goes on with the token at a position.
 pub fn unexpected(tokens: &[Token<'_>], at: usize) -> ParseError

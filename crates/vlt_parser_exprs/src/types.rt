@@ -1,7 +1,7 @@
 //! States, keys with their states, and types.
 
 ghost use Rattle.std.specs.Prelude.{◌≡◌, ◌∷◌, [], ◌≤◌, ◌+◌, length, Option, Some, None, option_map};
-ghost use Rattle.vlt_lexer.specs.declared.token.Word.TheVariants.{Tracked};
+ghost use Rattle.vlt_tokens.specs.declared.token.Word.TheVariants.{Tracked};
 ghost use Rattle.vlt_syntax.specs.Tokens.{keyword as a_keyword};
 ghost use Rattle.vlt_syntax.specs.Tree.{KeyStates as SeenKeyStates, Ty as SeenTy};
 ghost use Rattle.vlt_syntax.specs.Spelling.{states_then, at_states_then, marked_name_then, key_states_then, named_then, ty_then};
@@ -16,8 +16,8 @@ use crate::error::ParseError;
 use crate::lists::{Part, enclosed, some_listed};
 use crate::tokens::{after_sign, keyword, kind, name, sign, span, unexpected};
 use std::alloc::Global;
-use vlt_lexer::{Mark, Token, TokenKind, Word};
 use vlt_syntax::{KeyStates, Name, Named, States, Ty};
+use vlt_tokens::{Mark, Token, TokenKind, Word};
 
 /// A sign and the name after it, if the sign comes next.
 #[tactic(auto, using(crate::proofs::Runs::marked_some, crate::proofs::Runs::marked_none))]

@@ -1,7 +1,7 @@
 -- The spans of `input()` and `more()`.
 use Rattle.std.proofs.Common.{◌≡◌, ℕ, ◌+◌, List, sym, ap, ◌∙◌, arith}
 use Rattle.vlt_base.specs.declared.places.Span.{Span}
-use Rattle.vlt_lexer.specs.declared.token.Token.{Token as CodeToken}
+use Rattle.vlt_tokens.specs.declared.token.Token.{Token as CodeToken}
 use Rattle.vlt_syntax.specs.Tree as s
 use Rattle.vlt_syntax.specs.Places.{right_at}
 use Rattle.vlt_parser_exprs.specs.Reading.{spans, Stands}

@@ -1,6 +1,6 @@
 -- What parts of the parser say of statements without blocks.
 use Rattle.std.specs.Prelude.{ℕ, List, ◌∷◌}
-use Rattle.vlt_lexer.specs.declared.token.Mark.TheVariants as mark
+use Rattle.vlt_tokens.specs.declared.token.Mark.TheVariants as mark
 use Rattle.vlt_syntax.specs.Tokens.{Token, sign}
 use Rattle.vlt_syntax.specs.Spelling.{right_then}
 use Rattle.vlt_syntax.specs.Tree.{Expr, Right, Stmt}

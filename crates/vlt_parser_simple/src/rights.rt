@@ -1,9 +1,9 @@
 //! Right sides of declarations and assignments, calls, and what a `return` gives.
 
 ghost use Rattle.std.specs.Prelude.{◌≡◌, ◌∷◌, [], ◌≤◌, ◌+◌, ℕ, true, false, length, None, IfOk, option_map};
-ghost use Rattle.vlt_lexer.specs.declared.token.Word.TheVariants.{New, Adopt, Into};
-ghost use Rattle.vlt_lexer.specs.declared.token.Mark.TheVariants.{OpenParen, CloseParen, OpenBrace, CloseBrace};
-ghost use Rattle.vlt_lexer.specs.declared.token.TokenKind.TheVariants as kinds;
+ghost use Rattle.vlt_tokens.specs.declared.token.Word.TheVariants.{New, Adopt, Into};
+ghost use Rattle.vlt_tokens.specs.declared.token.Mark.TheVariants.{OpenParen, CloseParen, OpenBrace, CloseBrace};
+ghost use Rattle.vlt_tokens.specs.declared.token.TokenKind.TheVariants as kinds;
 ghost use Rattle.vlt_syntax.specs.Tokens.{keyword as a_keyword, sign as a_sign};
 ghost use Rattle.vlt_syntax.specs.Spelling.{build_then, call_then, owner_then, right_then, returned_then};
 ghost use Rattle.vlt_syntax.specs.Grammar.{IsBuild, IsCall, IsRight, IsReturned, language};
@@ -15,13 +15,13 @@ ghost use Rattle.vlt_parser_exprs.specs.Ahead.{lexemes_from, Begins, BeginsWith,
 ghost use Rattle.vlt_parser_exprs.specs.Promises.{Advances, Holds, Lies, MayAdvance, Spells, SpellsAfter, Takes};
 
 use std::alloc::Global;
-use vlt_lexer::{Mark, Token, TokenKind, Word};
 use vlt_parser_exprs::ParseError;
 use vlt_parser_exprs::exprs::expr;
 use vlt_parser_exprs::lists::{enclosed, listed};
 use vlt_parser_exprs::tokens::{after_sign, case_name, keyword, kind, name, sign, span};
 use vlt_parser_exprs::types::named;
 use vlt_syntax::{Build, Call, Name, Returned, Right};
+use vlt_tokens::{Mark, Token, TokenKind, Word};
 
 /// A case with its payload.
 fn build(alloc: Global, tokens: &[Token<'_>], at: usize) -> Result<(Build, usize), ParseError>

@@ -1,9 +1,9 @@
 //! Statements without blocks.
 
 ghost use Rattle.std.specs.Prelude.{◌∷◌, [], ◌+◌, None};
-ghost use Rattle.vlt_lexer.specs.declared.token.TokenKind.TheVariants as kinds;
-ghost use Rattle.vlt_lexer.specs.declared.token.Word.TheVariants.{Print, Return, Release, Become, Swap, Open, Into};
-ghost use Rattle.vlt_lexer.specs.declared.token.Mark.TheVariants.{OpenParen, CloseParen, Assign, Semicolon, Dot, At, Comma};
+ghost use Rattle.vlt_tokens.specs.declared.token.TokenKind.TheVariants as kinds;
+ghost use Rattle.vlt_tokens.specs.declared.token.Word.TheVariants.{Print, Return, Release, Become, Swap, Open, Into};
+ghost use Rattle.vlt_tokens.specs.declared.token.Mark.TheVariants.{OpenParen, CloseParen, Assign, Semicolon, Dot, At, Comma};
 ghost use Rattle.vlt_syntax.specs.Spelling.{condition_then, stmt_then};
 ghost use Rattle.vlt_syntax.specs.Grammar.{IsExpr, IsRight, language};
 ghost use Rattle.vlt_syntax.specs.Places.{stmt_at};
@@ -15,13 +15,13 @@ ghost use Rattle.vlt_parser_exprs.specs.Promises.{Advances, Holds, Lies, Spells,
 
 use crate::rights::{call, returned, right};
 use std::alloc::Global;
-use vlt_lexer::{Mark, Token, TokenKind, Word};
 use vlt_parser_exprs::ParseError;
 use vlt_parser_exprs::exprs::expr;
 use vlt_parser_exprs::lists::some_listed;
 use vlt_parser_exprs::tokens::{keyword, kind, name, next_sign, sign, span, unexpected};
 use vlt_parser_exprs::types::ty;
 use vlt_syntax::{Expr, Right, Stmt};
+use vlt_tokens::{Mark, Token, TokenKind, Word};
 
 /// An expression in parentheses.
 pub fn condition(

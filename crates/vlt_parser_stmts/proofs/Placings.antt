@@ -1,7 +1,7 @@
 -- Statements, arms and what has blocks stand where they are read.
 use Rattle.std.proofs.Common.{◌≡◌, ℕ, ◌+◌, List, [], ◌∷◌, ◌++◌, sym, ap, ◌∙◌, arith}
 use Rattle.vlt_base.specs.declared.places.Span.{Span}
-use Rattle.vlt_lexer.specs.declared.token.Token.{Token as CodeToken}
+use Rattle.vlt_tokens.specs.declared.token.Token.{Token as CodeToken}
 use Rattle.vlt_syntax.specs.Tree as s
 use Rattle.vlt_syntax.specs.Places.{expr_at, stmt_at, block_at, if_at, else_at, stmts_at, arms_at}
 use Rattle.vlt_syntax.specs.View.{ArmView, stmts_made, arms_made}

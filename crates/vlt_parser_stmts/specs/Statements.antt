@@ -1,7 +1,7 @@
 -- What parts of the parser say of statements.
 use Rattle.std.specs.Prelude.{List, ◌∷◌}
-use Rattle.vlt_lexer.specs.declared.token.Mark.TheVariants as mark
-use Rattle.vlt_lexer.specs.declared.token.Word.TheVariants as word
+use Rattle.vlt_tokens.specs.declared.token.Mark.TheVariants as mark
+use Rattle.vlt_tokens.specs.declared.token.Word.TheVariants as word
 use Rattle.vlt_syntax.specs.Tokens.{Token, sign, keyword}
 use Rattle.vlt_syntax.specs.Tree.{Name, Arms}
 use Rattle.vlt_syntax.specs.Lists.{enclosed_then}

@@ -1,9 +1,9 @@
 //! Statements with blocks. `room` is how many more blocks may stand in one another where a part stands.
 
 ghost use Rattle.std.specs.Prelude.{◌≡◌, ◌∷◌, [], ◌-◌, ◌≤◌, None, length, map, IfOk, IfErr, OnOk};
-ghost use Rattle.vlt_lexer.specs.declared.token.TokenKind.TheVariants as kinds;
-ghost use Rattle.vlt_lexer.specs.declared.token.Word.TheVariants as words;
-ghost use Rattle.vlt_lexer.specs.declared.token.Mark.TheVariants.{OpenParen, CloseParen, OpenBrace, CloseBrace, Colon};
+ghost use Rattle.vlt_tokens.specs.declared.token.TokenKind.TheVariants as kinds;
+ghost use Rattle.vlt_tokens.specs.declared.token.Word.TheVariants as words;
+ghost use Rattle.vlt_tokens.specs.declared.token.Mark.TheVariants.{OpenParen, CloseParen, OpenBrace, CloseBrace, Colon};
 ghost use Rattle.vlt_syntax.specs.Tokens.{sign as a_sign};
 ghost use Rattle.vlt_syntax.specs.Spelling.{stmt_then, block_then, if_then, else_then, arms_then};
 ghost use Rattle.vlt_syntax.specs.Grammar.{IsStmt, IsBlock, IsIf, IsElse, IsSomeArm, AreArms, language};
@@ -17,12 +17,12 @@ ghost use Rattle.vlt_parser_exprs.specs.Promises.{Advances, Holds, KindComes, Li
 
 use std::alloc::Global;
 use vlt_base::{Boxed, DEPTH, Items};
-use vlt_lexer::{Mark, Token, TokenKind, Word};
 use vlt_parser_exprs::ParseError;
 use vlt_parser_exprs::lists::enclosed;
 use vlt_parser_exprs::tokens::{after_sign, case_name, keyword, kind, name, sign, span};
 use vlt_parser_simple::simple::{condition, simple};
 use vlt_syntax::{Arm, Block, Else, If, Name, Stmt};
+use vlt_tokens::{Mark, Token, TokenKind, Word};
 
 /// Whether one more block may stand here.
 fn enter(room: usize) -> Result<(), ParseError>

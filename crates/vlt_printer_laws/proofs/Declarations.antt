@@ -1,8 +1,8 @@
 -- Declarations, and whole files.
 use Rattle.std.proofs.Common.{ℕ, Bool, true, false, List, [], ◌∷◌, ◌++◌, Option, Some, None, refl}
 use Rattle.std.specs.Prelude.{codes, IfSome}
-use Rattle.vlt_lexer.specs.declared.token.Word.TheVariants as words
-use Rattle.vlt_lexer.specs.declared.token.Mark.TheVariants as marks
+use Rattle.vlt_tokens.specs.declared.token.Word.TheVariants as words
+use Rattle.vlt_tokens.specs.declared.token.Mark.TheVariants as marks
 use Rattle.vlt_syntax.specs.Lists.{each_then, listed_then, Each}
 use Rattle.vlt_syntax.specs.Grammar.{Bounds, IsField, IsCase, IsKeyStates, IsTy, IsEntry, IsParameter, IsHead, IsDecl}
 use Rattle.vlt_syntax.specs.Tokens.{Token, sign}

@@ -4,9 +4,9 @@ use Rattle.std.specs.Prelude.{codes}
 use Rattle.vlt_ops.specs.declared.Op.{Op}
 use Rattle.vlt_ops.specs.declared.Op.TheVariants as op
 use Rattle.vlt_ops.specs.Operator.{row_of}
-use Rattle.vlt_lexer.specs.declared.token.Word.TheVariants as words
-use Rattle.vlt_lexer.specs.declared.token.Mark.TheVariants as marks
-use Rattle.vlt_lexer.specs.Spelling.{sign_text}
+use Rattle.vlt_tokens.specs.declared.token.Word.TheVariants as words
+use Rattle.vlt_tokens.specs.declared.token.Mark.TheVariants as marks
+use Rattle.vlt_tokens.specs.Spelling.{sign_text}
 use Rattle.vlt_syntax.specs.Grammar.{Bounds, BindsFrom, level, IsExpr, IsBuild, IsCall, IsInit, IsRight, IsReturned}
 use Rattle.vlt_syntax.specs.Tokens.{Token, sign}
 use Rattle.vlt_syntax.specs.Tree as s

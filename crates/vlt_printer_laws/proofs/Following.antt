@@ -4,10 +4,10 @@ use Rattle.std.specs.Prelude.{◌==◌}
 use Rattle.std.proofs.lemmas.Bool.{and_parts}
 use Rattle.std.proofs.lemmas.Bool.Decides.{nat_tests}
 use Rattle.unicode_ident.proofs.IdentLemmas.{is_xid_continue-ascii}
-use Rattle.vlt_lexer.specs.declared.token.Mark.{Mark}
-use Rattle.vlt_lexer.specs.declared.token.Mark.TheVariants as mark
-use Rattle.vlt_lexer.specs.Spelling.{sign_text}
-use Rattle.vlt_lexer.specs.Characters.{is_blank, is_digit, is_name_start, is_name_more, IsName, IsDigits}
+use Rattle.vlt_tokens.specs.declared.token.Mark.{Mark}
+use Rattle.vlt_tokens.specs.declared.token.Mark.TheVariants as mark
+use Rattle.vlt_tokens.specs.Spelling.{sign_text}
+use Rattle.vlt_tokens.specs.Characters.{is_blank, is_digit, is_name_start, is_name_more, IsName, IsDigits}
 use Rattle.vlt_lexer.proofs.Runs.{true_false}
 use Rattle.vlt_lexer.proofs.Heads.{name_head, is_sign_head, sign_opens, sign_some}
 

@@ -1,11 +1,11 @@
 -- Each kind of piece is the longest one where a text may follow it.
 use Rattle.std.proofs.Common.{◌≡◌, ℕ, ◌≤◌, Bool, true, false, List, [], ◌∷◌, ◌++◌, length, refl, sym, ap, subst, ◌∙◌, arith}
 use Rattle.std.proofs.lemmas.Bool.{not-true}
-use Rattle.vlt_lexer.specs.declared.token.Mark.{Mark}
-use Rattle.vlt_lexer.specs.declared.token.TheConstants.Mark as signs
-use Rattle.vlt_lexer.specs.Spelling.{sign_text}
-use Rattle.vlt_lexer.specs.Characters.{is_digit, is_name_more, EachIs, IsName, IsDigits}
-use Rattle.vlt_lexer.specs.Lexemes.{IsLongest}
+use Rattle.vlt_tokens.specs.declared.token.Mark.{Mark}
+use Rattle.vlt_tokens.specs.declared.token.TheConstants.Mark as signs
+use Rattle.vlt_tokens.specs.Spelling.{sign_text}
+use Rattle.vlt_tokens.specs.Characters.{is_digit, is_name_more, EachIs, IsName, IsDigits}
+use Rattle.vlt_tokens.specs.Lexemes.{IsLongest}
 use Rattle.vlt_lexer.specs.Steps.{run}
 use Rattle.vlt_lexer.proofs.Runs.{true_false, head_is, tail_is}
 use Rattle.vlt_lexer.proofs.Tables.{sign_found, spelled_passes}

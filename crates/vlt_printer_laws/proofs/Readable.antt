@@ -5,10 +5,10 @@ use Rattle.std.specs.Str.{chars}
 use Rattle.std.proofs.lemmas.Bool.Decides.{nat_tests}
 use Rattle.std.proofs.lemmas.Str.{encode_ascii, encodes-append, chars-encodes}
 use Rattle.std.proofs.Math.Utf8.{low_scalar}
-use Rattle.vlt_lexer.specs.declared.token.TokenKind.{TokenKind}
-use Rattle.vlt_lexer.specs.Characters.{is_blank, width}
-use Rattle.vlt_lexer.specs.Lexemes.{IsLongest, IsOf}
-use Rattle.vlt_lexer.specs.Reading.{Lexeme, IsToken, blank, Reads, nothing, gap, token}
+use Rattle.vlt_tokens.specs.declared.token.TokenKind.{TokenKind}
+use Rattle.vlt_tokens.specs.Characters.{is_blank, width}
+use Rattle.vlt_tokens.specs.Lexemes.{IsLongest, IsOf, Lexeme}
+use Rattle.vlt_lexer.specs.Reading.{IsToken, blank, Reads, nothing, gap, token}
 use Rattle.vlt_lexer.specs.Text.{IsTokensOf}
 use Rattle.vlt_syntax.specs.Tokens.{Token, token_from, tokens_in}
 use Rattle.vlt_printer_laws.proofs.Scalars.{AreScalars, scalars_joined}

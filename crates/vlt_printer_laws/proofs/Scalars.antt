@@ -3,7 +3,7 @@ use Rattle.std.proofs.Common.{◌≡◌, ℕ, Bool, true, false, cond, eqb, List
 use Rattle.std.specs.Prelude.{codes}
 use Rattle.std.proofs.lemmas.Bool.{and_parts}
 use Rattle.std.proofs.Math.Utf8.{scalar, scalars}
-use Rattle.vlt_lexer.specs.Characters.{following, or_else, after_line, after_close}
+use Rattle.vlt_tokens.specs.Characters.{following, or_else, after_line, after_close}
 use Rattle.vlt_lexer.specs.Reading.{IsGap, blank, line, block}
 use Rattle.vlt_lexer.proofs.Runs.{after_splits, some_is}
 

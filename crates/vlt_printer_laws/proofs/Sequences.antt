@@ -1,9 +1,9 @@
 -- Lists in a layout, over any kind of thing.
 use Rattle.std.proofs.Common.{◌≡◌, ℕ, true, List, [], ◌∷◌, ◌++◌, refl}
 use Rattle.std.specs.Prelude.{codes}
-use Rattle.vlt_lexer.specs.declared.token.Mark.{Mark}
-use Rattle.vlt_lexer.specs.declared.token.Mark.TheVariants.{Comma, OpenBrace, CloseBrace}
-use Rattle.vlt_lexer.specs.Spelling.{sign_text}
+use Rattle.vlt_tokens.specs.declared.token.Mark.{Mark}
+use Rattle.vlt_tokens.specs.declared.token.Mark.TheVariants.{Comma, OpenBrace, CloseBrace}
+use Rattle.vlt_tokens.specs.Spelling.{sign_text}
 use Rattle.vlt_syntax.specs.Lists.{each_then, further_then, listed_then, enclosed_then, Each}
 use Rattle.vlt_syntax.specs.Tokens.{Token, sign}
 use Rattle.vlt_base.specs.Layout.{Layout, written, text}

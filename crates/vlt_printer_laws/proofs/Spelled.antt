@@ -9,13 +9,13 @@ use Rattle.std.proofs.lemmas.Bool.Decides.{nat_tests}
 use Rattle.std.proofs.lemmas.Fmt.{decimal_by_steps_wide, IsAscii-decimal_wide}
 use Rattle.std.proofs.lemmas.Slice.Eq.{bytes_eq-Decides}
 use Rattle.std.proofs.lemmas.Str.{encodes-IsAscii}
-use Rattle.vlt_lexer.specs.declared.token.Word.{Word}
-use Rattle.vlt_lexer.specs.declared.token.Mark.{Mark}
-use Rattle.vlt_lexer.specs.declared.token.TheConstants.Word as words
-use Rattle.vlt_lexer.specs.declared.token.TheConstants.Mark as signs
-use Rattle.vlt_lexer.specs.Spelling.{word_text, sign_text}
-use Rattle.vlt_lexer.specs.Characters.{is_digit, EachIs, IsDigits, value_after, value_of}
-use Rattle.vlt_lexer.specs.Lexemes.{max_number}
+use Rattle.vlt_tokens.specs.declared.token.Word.{Word}
+use Rattle.vlt_tokens.specs.declared.token.Mark.{Mark}
+use Rattle.vlt_tokens.specs.declared.token.TheConstants.Word as words
+use Rattle.vlt_tokens.specs.declared.token.TheConstants.Mark as signs
+use Rattle.vlt_tokens.specs.Spelling.{word_text, sign_text}
+use Rattle.vlt_tokens.specs.Characters.{is_digit, EachIs, IsDigits, value_after, value_of}
+use Rattle.vlt_tokens.specs.Lexemes.{max_number}
 use Rattle.vlt_lexer.proofs.Tables.{word_found, sign_found, spelled_passes}
 use Rattle.vlt_printer_laws.proofs.Scalars.{AreScalars, scalars_joined}
 

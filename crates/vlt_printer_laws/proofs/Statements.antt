@@ -1,9 +1,9 @@
 -- Statements, over the indentation of the block around.
 use Rattle.std.proofs.Common.{ℕ, ◌-◌, List, [], ◌∷◌, ◌++◌, refl, sym, subst, append_assoc, append-nil}
 use Rattle.std.specs.Prelude.{codes}
-use Rattle.vlt_lexer.specs.declared.token.Word.TheVariants as words
-use Rattle.vlt_lexer.specs.declared.token.Mark.TheVariants as marks
-use Rattle.vlt_lexer.specs.Characters.{is_blank, EachIs}
+use Rattle.vlt_tokens.specs.declared.token.Word.TheVariants as words
+use Rattle.vlt_tokens.specs.declared.token.Mark.TheVariants as marks
+use Rattle.vlt_tokens.specs.Characters.{is_blank, EachIs}
 use Rattle.vlt_syntax.specs.Grammar.{Bounds, IsStmt, IsBlock, IsIf, IsElse, AreStmts, AreArms}
 use Rattle.vlt_syntax.specs.Tokens.{Token}
 use Rattle.vlt_syntax.specs.Tree as s

@@ -1,8 +1,8 @@
 -- Names, states and types.
 use Rattle.std.proofs.Common.{ℕ, List, [], ◌∷◌, Option, Some, None, refl}
 use Rattle.std.specs.Prelude.{codes}
-use Rattle.vlt_lexer.specs.declared.token.Word.TheVariants as words
-use Rattle.vlt_lexer.specs.declared.token.Mark.TheVariants as marks
+use Rattle.vlt_tokens.specs.declared.token.Word.TheVariants as words
+use Rattle.vlt_tokens.specs.declared.token.Mark.TheVariants as marks
 use Rattle.vlt_syntax.specs.Grammar.{IsKeyStates, IsTy}
 use Rattle.vlt_syntax.specs.Tokens.{Token}
 use Rattle.vlt_syntax.specs.Tree as s

@@ -1,11 +1,11 @@
 -- What the tokens of a text are spelled as.
 use Rattle.std.proofs.Common.{◌≡◌, ◌≤◌, ℕ, pos, List, ◌∷◌, ap, subst, ◌∙◌}
 use Rattle.std.specs.Prelude.{encode_utf8_all}
-use Rattle.vlt_lexer.specs.declared.token.TokenKind.{TokenKind}
-use Rattle.vlt_lexer.specs.declared.token.TokenKind.TheVariants as kind
-use Rattle.vlt_lexer.specs.Characters.{IsName, value_of}
-use Rattle.vlt_lexer.specs.Lexemes.{IsNoWord, IsOf, max_number}
-use Rattle.vlt_lexer.specs.Reading.{Lexeme, Reads, nothing, gap, token}
+use Rattle.vlt_tokens.specs.declared.token.TokenKind.{TokenKind}
+use Rattle.vlt_tokens.specs.declared.token.TokenKind.TheVariants as kind
+use Rattle.vlt_tokens.specs.Characters.{IsName, value_of}
+use Rattle.vlt_tokens.specs.Lexemes.{IsNoWord, IsOf, max_number, Lexeme}
+use Rattle.vlt_lexer.specs.Reading.{Reads, nothing, gap, token}
 use Rattle.vlt_syntax.specs.Lists.{Each}
 use Rattle.vlt_syntax.specs.Tokens.{Token, name, tick, number, keyword, sign, token_from, tokens_in}
 use Rattle.vlt_printer_laws.proofs.Scalars.{AreScalars, scalars_split, gap_scalars}

@@ -1,6 +1,6 @@
 -- What is promised of the layout of a tree.
 use Rattle.std.specs.Prelude.{◌≡◌, ℕ, List}
-use Rattle.vlt_lexer.specs.Reading.{Lexeme}
+use Rattle.vlt_tokens.specs.Lexemes.{Lexeme}
 use Rattle.vlt_lexer.specs.Text.{IsTokensOf}
 use Rattle.vlt_syntax.specs.Tokens.{tokens_in}
 use Rattle.vlt_syntax.specs.Tree.{Tree}

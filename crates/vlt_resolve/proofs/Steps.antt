@@ -9,8 +9,8 @@ use Rattle.vlt_core.specs.Core.{Func}
 use Rattle.vlt_core.specs.declared.program.Func as made
 use Rattle.vlt_core.specs.View.{func_of}
 use Rattle.vlt_kinds_types.specs.Kinds.{Kinds}
-use Rattle.vlt_resolve.specs.Walk.Walk.{then_do}
-use Rattle.vlt_resolve.specs.Elaboration.{walk_decls, walk_function, is_function}
+use Rattle.vlt_elaboration.specs.Walk.{then_do}
+use Rattle.vlt_elaboration.specs.Elaboration.{walk_decls, walk_function, is_function}
 
 -- what was made before, and then these
 abbrev pub after_funcs : List Func → Result (List Func) Refusal → Result (List Func) Refusal

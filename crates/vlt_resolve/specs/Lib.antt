@@ -1,4 +1,1 @@
-pub mod Elaboration
-pub mod Programs
 pub mod Refusals
-pub mod Walk

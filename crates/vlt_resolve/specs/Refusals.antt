@@ -2,7 +2,7 @@
 use Rattle.std.specs.Prelude.{◌≡◌, ℕ, Option, Some, None, Result, Err}
 use Rattle.vlt_resolve.specs.declared.error.ElabError.{ElabError}
 use Rattle.vlt_resolve.specs.declared.error.ElabError.TheVariants.{Rule, Limit, Memory}
-use Rattle.vlt_resolve.specs.Elaboration.{Told, broken, exceeded}
+use Rattle.vlt_elaboration.specs.Elaboration.{Told, broken, exceeded}
 
 -- a fact for what is told
 pub record OnTold {A : Type 0} (r : Result A ElabError) (p : Told → Type 0) : Type 0 where

@@ -1,5 +1,5 @@
 //! Elaboration: a tree and the table of its kinds in, the core program out, or the first rule or limit that refuses a body.
-//! Read `specs/Elaboration.antt` first, then `specs/Walk/Walk.antt`.
+//! Read `Elaboration` of `vlt_elaboration` first, then its `Walk`.
 //! Used by: the check, the runs and the lowering, which take the program that comes out.
 #![tactic(auto)]
 
@@ -7,22 +7,23 @@ ghost use Rattle.std.specs.Prelude.{◌≡◌, Some, Ok, Err, IfOk};
 ghost use Rattle.vlt_syntax.specs.View.{tree_of};
 ghost use Rattle.vlt_core.specs.View.{program_of};
 ghost use Rattle.vlt_kinds_types.specs.Seen.{kinds_seen};
-ghost use Rattle.vlt_resolve.specs.Elaboration.{elaborated, told_of, walk_tree};
+ghost use Rattle.vlt_elaboration.specs.Elaboration.{elaborated, told_of, walk_tree};
 ghost use Rattle.vlt_resolve.specs.Refusals.{OnTold, error_seen};
-ghost use Rattle.vlt_resolve.specs.Walk.Refusals.{OnRefused};
+ghost use Rattle.vlt_resolve_parts.specs.Refusals.{OnRefused};
 
 mod error;
 mod functions;
+mod statements;
 mod walk;
 
-use crate::walk::Stop;
 pub use error::ElabError;
 use std::alloc::Global;
 use vlt_base::{KEYS, VARIABLES};
 use vlt_core::Program;
 use vlt_kinds_types::{Kinds, Refusal};
+use vlt_resolve_bodies::{copy_decls, copy_sets, main_of};
 use vlt_resolve_exprs::limits::{TOO_MANY_KEYS, TOO_MANY_VARIABLES};
-use vlt_resolve_parts::{copy_decls, copy_sets};
+use vlt_resolve_parts::Stop;
 use vlt_syntax::Tree;
 
 fn program(alloc: Global, tree: &Tree, kinds: &Kinds<'_>) -> Result<Program, Stop>
@@ -34,7 +35,7 @@ fn program(alloc: Global, tree: &Tree, kinds: &Kinds<'_>) -> Result<Program, Sto
     let fns = functions::walk_decls(alloc, kinds, tree.decls.as_slice())?;
     let sets = copy_sets(alloc, kinds.file.sets.as_slice())?;
     let types = copy_decls(alloc, kinds.types.as_slice())?;
-    let main = functions::main_of(kinds.heads.as_slice())?;
+    let main = main_of(kinds.heads.as_slice())?;
     Ok(Program {
         sets,
         types,

@@ -13,12 +13,12 @@ use Rattle.vlt_resolve_exprs.specs.Scopes.{Scope, var_ty, with_key, with_var}
 use Rattle.vlt_resolve_exprs.specs.Bindings.{too_many_vars, too_many_keys, not_free, new_var_refused, new_key_refused, with_vars, with_several}
 use Rattle.vlt_resolve_calls.specs.Builds.{Case}
 use Rattle.vlt_resolve_rights.specs.News.{hides, hidden_refused, with_object, with_hidden}
-use Rattle.vlt_resolve_stmts.specs.Rights.{right_refused}
-use Rattle.vlt_resolve_stmts.specs.Around.{Around}
-use Rattle.vlt_resolve_stmts.specs.Declarations.{is_known_key, binds_key, bound_key_refused, with_bound_key, type_refused, declared_target, hidden_right_refused, declared_refused, keyed_refused, declare_refused, declared_became, hidden_became, keyed_became, declare_became, assigned_target, assign_refused, assign_became}
-use Rattle.vlt_resolve_stmts.specs.Statements.{opened_parts, opened_became, open_became, returned_build, return_became, simple_refused, simple_became}
-use Rattle.vlt_resolve_parts.specs.Switches.{arm_case, arm_scope, focused_refused, bound_refused, focus_refused, keyed_scope, bound_scope}
-use Rattle.vlt_resolve.specs.Elaboration.{body_scope}
+use Rattle.vlt_elaboration.specs.Rights.{right_refused}
+use Rattle.vlt_elaboration.specs.Around.{Around}
+use Rattle.vlt_elaboration.specs.Declarations.{is_known_key, binds_key, bound_key_refused, with_bound_key, type_refused, declared_target, hidden_right_refused, declared_refused, keyed_refused, declare_refused, declared_became, hidden_became, keyed_became, declare_became, assigned_target, assign_refused, assign_became}
+use Rattle.vlt_elaboration.specs.Statements.{opened_parts, opened_became, open_became, returned_build, return_became, simple_refused, simple_became}
+use Rattle.vlt_elaboration.specs.Switches.{arm_case, arm_scope, focused_refused, bound_refused, focus_refused, keyed_scope, bound_scope}
+use Rattle.vlt_elaboration.specs.Elaboration.{body_scope}
 use Rattle.vlt_resolve_laws.specs.Made.{head_made, IsWalked, IsMade}
 use Rattle.vlt_resolve_laws.specs.Elaborated.{IsElaborated}
 use Rattle.vlt_resolve_laws.proofs.Walking.{IsKept, stmts_kept}

@@ -22,9 +22,9 @@ use Rattle.vlt_kinds_types.specs.Kinds.{Kinds}
 use Rattle.vlt_kinds.specs.Tables.{kinds_of, unless, heads_told, types_told, names_told}
 use Rattle.vlt_resolve_laws.proofs.OfKindsLaws.Empty.{no_left, no_right, not_broken}
 use Rattle.vlt_resolve_exprs.specs.declared.limits.TheConstants.{TOO_MANY_VARIABLES, TOO_MANY_KEYS}
-use Rattle.vlt_resolve.specs.Walk.Walk.{then_do, walk_stmts}
-use Rattle.vlt_resolve.specs.Elaboration as elab
-use Rattle.vlt_resolve.specs.Elaboration.{body_scope, body_around, stmts_in, end_refused, func_made, walk_body, is_function, walk_function, walk_decls, walk_tree, main_of, Told, with_told}
+use Rattle.vlt_elaboration.specs.Walk.{then_do, walk_stmts}
+use Rattle.vlt_elaboration.specs.Elaboration as elab
+use Rattle.vlt_elaboration.specs.Elaboration.{body_scope, body_around, stmts_in, end_refused, func_made, walk_body, is_function, walk_function, walk_decls, walk_tree, main_of, Told, with_told}
 use Rattle.vlt_resolve_laws.proofs.Results.{same_ok, then_ok, unless_ok, least_none}
 use Rattle.vlt_resolve_laws.specs.Made.{head_made, HasWalked, IsMade, AreMade}
 

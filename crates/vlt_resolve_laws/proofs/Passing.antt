@@ -25,14 +25,14 @@ use Rattle.vlt_resolve_calls.specs.Builds.{Case, case_form, case_of_tick, core_b
 use Rattle.vlt_resolve_calls.specs.Calls.{Use, dropped, given, param_types, head_form, callee_form, core_call}
 use Rattle.vlt_resolve_rights.specs.News.{init_operands, made_operands, made_forms, new_forms}
 use Rattle.vlt_resolve_rights.specs.Adopts.{core_adopt}
-use Rattle.vlt_resolve_stmts.specs.Rights.{right_forms}
-use Rattle.vlt_resolve_stmts.specs.Around.{Around, inside_loop, inside_focus}
-use Rattle.vlt_resolve_stmts.specs.Declarations.{declare_became, keyed_became, hidden_became, declared_became, assign_became}
-use Rattle.vlt_resolve_stmts.specs.Statements.{core_put, release_form, core_become, core_swap, opened_parts, opened_became, open_became, hidden_operand, returned_value, returned_build, return_became, simple_refused, simple_became}
-use Rattle.vlt_resolve_parts.specs.Switches.{arm_names, switch_refused, arm_case, arm_refused, arm_scope, arm_numbers, case_number, focus_refused, bound_scope}
-use Rattle.vlt_resolve.specs.Walk.Blocks.{block_ends, closing, else_closing, ends, stmt_place}
-use Rattle.vlt_resolve.specs.Walk.Walk.{late, placed_at, block_made, walk_stmts, walk_stmt, walk_block, walk_else, walk_arms, walk_arm, walk_simple}
-use Rattle.vlt_resolve.specs.Elaboration.{body_scope, body_around, head_refused, end_refused, last_return, func_made, walk_body, walk_function, walk_decls, walk_tree, elaborated}
+use Rattle.vlt_elaboration.specs.Rights.{right_forms}
+use Rattle.vlt_elaboration.specs.Around.{Around, inside_loop, inside_focus}
+use Rattle.vlt_elaboration.specs.Declarations.{declare_became, keyed_became, hidden_became, declared_became, assign_became}
+use Rattle.vlt_elaboration.specs.Statements.{core_put, release_form, core_become, core_swap, opened_parts, opened_became, open_became, hidden_operand, returned_value, returned_build, return_became, simple_refused, simple_became}
+use Rattle.vlt_elaboration.specs.Switches.{arm_names, switch_refused, arm_case, arm_refused, arm_scope, arm_numbers, case_number, focus_refused, bound_scope}
+use Rattle.vlt_elaboration.specs.Blocks.{block_ends, closing, else_closing, ends, stmt_place}
+use Rattle.vlt_elaboration.specs.Walk.{late, placed_at, block_made, walk_stmts, walk_stmt, walk_block, walk_else, walk_arms, walk_arm, walk_simple}
+use Rattle.vlt_elaboration.specs.Elaboration.{body_scope, body_around, head_refused, end_refused, last_return, func_made, walk_body, walk_function, walk_decls, walk_tree, elaborated}
 use Rattle.vlt_resolve_laws.proofs.Results.{same_ok, then_ok, unless_ok}
 use Rattle.vlt_resolve_laws.proofs.Made.{told_ok}
 

@@ -31,11 +31,11 @@ use Rattle.vlt_resolve_exprs.specs.Bindings.{with_vars, with_several}
 use Rattle.vlt_resolve_calls.specs.Builds as b
 use Rattle.vlt_resolve_calls.specs.Builds.{Case as CaseOf, case_at, case_position, payload_in, case_in, case_of_tick, case_refused, build_refused}
 use Rattle.vlt_resolve_rights.specs.News.{hides, known_args, args_or_none, with_object, with_hidden}
-use Rattle.vlt_resolve_stmts.specs.Around.{Around}
-use Rattle.vlt_resolve_stmts.specs.Declarations.{is_known_key, with_bound_key, binds_key, declared_ty, declared_target, declared_became, hidden_became, keyed_became, declare_became, assign_became}
-use Rattle.vlt_resolve_stmts.specs.Statements.{owning_types, opened_parts, open_became, opened_became, built_refused, returned_refused, return_refused, returned_build, return_became, simple_refused, simple_became}
-use Rattle.vlt_resolve_parts.specs.Switches.{arm_case, arm_scope, focus_ty, bound_scope}
-use Rattle.vlt_resolve.specs.Elaboration.{body_scope, body_around, stmts_in}
+use Rattle.vlt_elaboration.specs.Around.{Around}
+use Rattle.vlt_elaboration.specs.Declarations.{is_known_key, with_bound_key, binds_key, declared_ty, declared_target, declared_became, hidden_became, keyed_became, declare_became, assign_became}
+use Rattle.vlt_elaboration.specs.Statements.{owning_types, opened_parts, open_became, opened_became, built_refused, returned_refused, return_refused, returned_build, return_became, simple_refused, simple_became}
+use Rattle.vlt_elaboration.specs.Switches.{arm_case, arm_scope, focus_ty, bound_scope}
+use Rattle.vlt_elaboration.specs.Elaboration.{body_scope, body_around, stmts_in}
 use Rattle.vlt_resolve_laws.proofs.Walking.{IsKept, stmts_kept}
 use Rattle.vlt_resolve_laws.specs.Made.{head_made, IsMade}
 use Rattle.vlt_resolve_laws.specs.Narrow.{ProgramSays}

@@ -1,2 +1,2 @@
-pub mod Switches
 pub mod Seen
+pub mod Refusals

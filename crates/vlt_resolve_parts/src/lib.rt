@@ -1,10 +1,14 @@
-//! Switches and focuses: one of the tree and the names in scope in, the least refusal and the scopes of its blocks out; and copies of
-//! what the table of kinds declares. Read `specs/Switches.antt` first.
-//! Used by: the walk over bodies, and elaboration.
+//! Switches, arms and focuses, and the other steps of a walk: one of the tree and the names in scope in, what is refused, the scopes
+//! of blocks and the core forms out. Read `Switches` of `vlt_elaboration` first.
+//! Used by: `vlt_resolve`.
 #![tactic(auto)]
 
-mod copies;
+mod pieces;
+mod stop;
 mod switches;
 
-pub use copies::{copy_decls, copy_func, copy_keys, copy_sets, copy_vars, func_of_head};
-pub use switches::{arm_case, arm_names, bind_arm, bind_focus, case_number, check_switch};
+pub use pieces::{
+    add_placed, close_block, focused, known_ty, one_stmt, opened_arm, passed, passed_with,
+    switched, tested,
+};
+pub use stop::Stop;

@@ -8,7 +8,7 @@ ghost use Rattle.vlt_kinds_types.specs.Names.Refusals.{least_from};
 ghost use Rattle.vlt_kinds_types.specs.Seen.{kinds_seen};
 ghost use Rattle.vlt_resolve_exprs.specs.Seen.{scope_seen};
 ghost use Rattle.vlt_resolve_calls.specs.Seen.{case_seen};
-ghost use Rattle.vlt_resolve_parts.specs.Switches as s;
+ghost use Rattle.vlt_elaboration.specs.Switches as s;
 ghost use Rattle.vlt_resolve_parts.specs.Seen.{texts_seen};
 
 use std::alloc::{AllocError, Global};
@@ -105,7 +105,7 @@ fn variant_covered(
     }
 }
 
-#[tactic(auto, unfolding(crate::specs::Switches::cases_refused))]
+#[tactic(auto, unfolding(vlt_elaboration::specs::Switches::cases_refused))]
 fn check_cases(
     alloc: Global,
     kinds: &Kinds<'_>,
@@ -130,7 +130,7 @@ fn check_cases(
 }
 
 /// What is refused at a switch on a variable of this type, whose arms have these names.
-#[tactic(auto, using(vlt_kinds_types::proofs::OfNames::Least::least_of_both), unfolding(crate::specs::Switches::switch_refused))]
+#[tactic(auto, using(vlt_kinds_types::proofs::OfNames::Least::least_of_both), unfolding(vlt_elaboration::specs::Switches::switch_refused))]
 pub fn check_switch(
     alloc: Global,
     kinds: &Kinds<'_>,
@@ -167,7 +167,7 @@ pub fn arm_case(
 }
 
 /// Binds the variables of an arm.
-#[tactic(auto, unfolding(crate::specs::Switches::arm_refused, crate::specs::Switches::arm_scope, crate::specs::Switches::arm_numbers))]
+#[tactic(auto, unfolding(vlt_elaboration::specs::Switches::arm_refused, vlt_elaboration::specs::Switches::arm_scope, vlt_elaboration::specs::Switches::arm_numbers))]
 pub fn bind_arm<'a>(
     alloc: Global,
     kinds: &Kinds<'_>,
@@ -217,7 +217,7 @@ fn focused_type(ty: &Option<Ty>) -> Option<TypeId>
     }
 }
 
-#[tactic(auto, unfolding(crate::specs::Switches::focused_refused))]
+#[tactic(auto, unfolding(vlt_elaboration::specs::Switches::focused_refused))]
 fn check_focused(ty: &Option<Ty>, name: &Name, found: &mut LeastRefusal)
     ensures { found.new.least ≡ least_from found.old.least
         (s.focused_refused (option_map ty_of ty.now) (tree.name_of name.now)) }
@@ -243,7 +243,7 @@ fn focus_ty(alloc: Global, ty: &Option<Ty>, key: KeyId) -> Result<Ty, AllocError
 }
 
 /// Binds the key and the variable of a focus on a variable of this type, in the scope of its block.
-#[tactic(auto, using(vlt_kinds_types::proofs::OfNames::Least::least_of_both), unfolding(crate::specs::Switches::bound_refused))]
+#[tactic(auto, using(vlt_kinds_types::proofs::OfNames::Least::least_of_both), unfolding(vlt_elaboration::specs::Switches::bound_refused))]
 fn bind_focus_names<'a>(
     alloc: Global,
     kinds: &Kinds<'_>,
@@ -269,7 +269,7 @@ fn bind_focus_names<'a>(
 }
 
 /// Tests a focus on a variable of this type, and binds its key and its variable in the scope of its block.
-#[tactic(auto, using(vlt_kinds_types::proofs::OfNames::Least::least_of_both), unfolding(crate::specs::Switches::focus_refused))]
+#[tactic(auto, using(vlt_kinds_types::proofs::OfNames::Least::least_of_both), unfolding(vlt_elaboration::specs::Switches::focus_refused))]
 pub fn bind_focus<'a>(
     alloc: Global,
     kinds: &Kinds<'_>,

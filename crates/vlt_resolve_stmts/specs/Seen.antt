@@ -2,7 +2,7 @@
 use Rattle.std.specs.Prelude.{map}
 use Rattle.std.specs.Option.{option_map}
 use Rattle.vlt_core.specs.View.{ty_of, entry_of}
-use Rattle.vlt_resolve_stmts.specs.Around as s
+use Rattle.vlt_elaboration.specs.Around as s
 use Rattle.vlt_resolve_stmts.specs.declared.around.Around.{Around}
 
 abbrev pub around_seen : Around → s.Around

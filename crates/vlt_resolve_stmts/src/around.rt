@@ -1,7 +1,7 @@
 //! What a statement stands in.
 
 ghost use Rattle.std.specs.Prelude.{◌≡◌};
-ghost use Rattle.vlt_resolve_stmts.specs.Around as a;
+ghost use Rattle.vlt_elaboration.specs.Around as a;
 ghost use Rattle.vlt_resolve_stmts.specs.Seen.{around_seen};
 
 use vlt_core::Func;

@@ -1,16 +1,15 @@
-//! Right sides and statements without blocks: one of the tree and the names in scope in, the least refusal and the core forms out.
-//! Read `specs/Statements.antt` first, then `Declarations` and `Rights`.
-//! Used by: the walk over bodies.
+//! Right sides, declarations, assignments, returns and jumps: one of the tree and the names in scope in, the least refusal and the
+//! core forms out. Read `Statements` of `vlt_elaboration` first, then its `Declarations` and `Rights`.
+//! Used by: `vlt_resolve`.
 #![tactic(auto)]
 
 mod around;
-mod changes;
-mod declare;
-mod opens;
+mod declarations;
+mod jumps;
 mod returns;
 mod rights;
-mod statements;
 
 pub use around::Around;
-pub use declare::{known_ty, next_var};
-pub use statements::simple;
+pub use declarations::{assign, declare, next_var};
+pub use jumps::jump;
+pub use returns::return_stmt;

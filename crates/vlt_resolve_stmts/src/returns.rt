@@ -10,7 +10,7 @@ ghost use Rattle.vlt_kinds_types.specs.Seen.{kinds_seen};
 ghost use Rattle.vlt_resolve_exprs.specs.Seen.{scope_seen, forms_of};
 ghost use Rattle.vlt_resolve_exprs.specs.Scopes.{more_var};
 ghost use Rattle.vlt_resolve_calls.specs.Builds as b;
-ghost use Rattle.vlt_resolve_stmts.specs.Statements as s;
+ghost use Rattle.vlt_elaboration.specs.Statements as s;
 ghost use Rattle.vlt_resolve_stmts.specs.Seen.{around_seen};
 
 use crate::around::Around;
@@ -69,7 +69,7 @@ fn gives_back(ty: &Ty, clause: &[Entry]) -> bool
     }
 }
 
-#[tactic(auto, unfolding(crate::specs::Statements::fresh_misfit))]
+#[tactic(auto, unfolding(vlt_elaboration::specs::Statements::fresh_misfit))]
 fn check_fresh_given(
     clause: &[Entry],
     wanted: &Ty,
@@ -94,7 +94,7 @@ fn check_fresh_given(
     }
 }
 
-#[tactic(auto, using(vlt_kinds_types::proofs::OfNames::Least::least_of_both), unfolding(crate::specs::Statements::fresh_refused))]
+#[tactic(auto, using(vlt_kinds_types::proofs::OfNames::Least::least_of_both), unfolding(vlt_elaboration::specs::Statements::fresh_refused))]
 fn check_fresh(
     alloc: Global,
     kinds: &Kinds<'_>,
@@ -114,7 +114,7 @@ fn check_fresh(
     Ok(())
 }
 
-#[tactic(auto, unfolding(crate::specs::Statements::value_refused))]
+#[tactic(auto, unfolding(vlt_elaboration::specs::Statements::value_refused))]
 fn check_value(
     alloc: Global,
     kinds: &Kinds<'_>,
@@ -252,7 +252,7 @@ fn return_build_for(
 }
 
 /// Tests a tick for a hidden variable, and returns that.
-#[tactic(auto, using(vlt_kinds_types::proofs::OfNames::Least::least_of_both), unfolding(crate::specs::Statements::built_refused))]
+#[tactic(auto, using(vlt_kinds_types::proofs::OfNames::Least::least_of_both), unfolding(vlt_elaboration::specs::Statements::built_refused))]
 fn return_build(
     alloc: Global,
     kinds: &Kinds<'_>,
@@ -275,7 +275,7 @@ fn return_build(
 
 // ---- all of them
 
-#[tactic(auto, unfolding(crate::specs::Statements::returned_refused, crate::specs::Statements::return_became))]
+#[tactic(auto, unfolding(vlt_elaboration::specs::Statements::returned_refused, vlt_elaboration::specs::Statements::return_became))]
 fn returned(
     alloc: Global,
     kinds: &Kinds<'_>,
@@ -330,7 +330,7 @@ fn gives_value(gives: &Returned) -> bool
 }
 
 /// Tests a `return` at this place, and makes it. What it makes counts only where nothing is refused.
-#[tactic(auto, using(vlt_kinds_types::proofs::OfNames::Least::least_of_both), unfolding(crate::specs::Statements::return_refused))]
+#[tactic(auto, using(vlt_kinds_types::proofs::OfNames::Least::least_of_both), unfolding(vlt_elaboration::specs::Statements::return_refused))]
 pub fn return_stmt(
     alloc: Global,
     kinds: &Kinds<'_>,

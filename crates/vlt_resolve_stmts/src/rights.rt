@@ -8,7 +8,7 @@ ghost use Rattle.vlt_kinds_types.specs.Seen.{kinds_seen};
 ghost use Rattle.vlt_resolve_exprs.specs.Seen.{scope_seen, forms_of, target_seen};
 ghost use Rattle.vlt_resolve_calls.specs.Calls as c;
 ghost use Rattle.vlt_resolve_exprs.specs.Targets as t;
-ghost use Rattle.vlt_resolve_stmts.specs.Rights as r;
+ghost use Rattle.vlt_elaboration.specs.Rights as r;
 
 use std::alloc::{AllocError, Global};
 use vlt_base::VarId;
@@ -20,7 +20,7 @@ use vlt_resolve_exprs::{Forms, Scope, Target, same_ty};
 use vlt_resolve_rights::{check_adopt, check_new, core_adopt, new_forms};
 use vlt_syntax::{Call, Expr, Right};
 
-#[tactic(auto, unfolding(crate::specs::Rights::input_refused))]
+#[tactic(auto, unfolding(vlt_elaboration::specs::Rights::input_refused))]
 fn check_input(wanted: &Ty, ty: &Ty, at: u32, found: &mut LeastRefusal)
     ensures { found.new.least ≡ least_from found.old.least
         (r.input_refused (ty_of wanted.now) (ty_of ty.now) at) }
@@ -128,7 +128,7 @@ fn target_right(
 }
 
 /// Tests a right side for the variable `x`, whose type is known.
-#[tactic(auto, unfolding(crate::specs::Rights::right_refused, crate::specs::Rights::right_forms))]
+#[tactic(auto, unfolding(vlt_elaboration::specs::Rights::right_refused, vlt_elaboration::specs::Rights::right_forms))]
 pub fn right_for(
     alloc: Global,
     kinds: &Kinds<'_>,
@@ -151,7 +151,7 @@ pub fn right_for(
 
 /// Tests a right side for the variable `x` as its target, and gives what it becomes. That counts only where nothing is
 /// refused. An unknown target is refused elsewhere, before the right side.
-#[tactic(auto, unfolding(crate::specs::Rights::right_refused, crate::specs::Rights::right_forms))]
+#[tactic(auto, unfolding(vlt_elaboration::specs::Rights::right_refused, vlt_elaboration::specs::Rights::right_forms))]
 pub fn right(
     alloc: Global,
     kinds: &Kinds<'_>,

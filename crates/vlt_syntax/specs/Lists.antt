@@ -1,7 +1,7 @@
 -- How lists of things are spelled. A thing's spelling is given as the tokens of it, and then others.
 use Rattle.std.specs.Prelude.{List, [], ◌∷◌}
-use Rattle.vlt_lexer.specs.declared.token.Mark.{Mark}
-use Rattle.vlt_lexer.specs.declared.token.Mark.TheVariants.{Comma}
+use Rattle.vlt_tokens.specs.declared.token.Mark.{Mark}
+use Rattle.vlt_tokens.specs.declared.token.Mark.TheVariants.{Comma}
 use Rattle.vlt_syntax.specs.Tokens.{Token, sign}
 
 -- one thing after another

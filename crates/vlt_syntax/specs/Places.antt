@@ -2,7 +2,7 @@
 -- Each definition sets the spans of one thing anew, in the order of its tokens, whatever they were before.
 use Rattle.std.specs.Prelude.{◌≡◌, ◌+◌, ◌-◌, ℕ, List, [], ◌∷◌, map, slice_index_or, Option, Some, None}
 use Rattle.vlt_base.specs.declared.places.Span.{Span}
-use Rattle.vlt_lexer.specs.Reading.{Lexeme}
+use Rattle.vlt_tokens.specs.Lexemes.{Lexeme}
 use Rattle.vlt_syntax.specs.Tree as s
 use Rattle.vlt_syntax.specs.Tree.{Name, States, KeyStates, Named, Ty, Expr, Build, Call, Init, Right, Returned, Stmt, Block, If, Else, Stmts, Arms, SetState, HeaderKey, Field, Case, Entry, ResultType, Parameter, Head, Decl, Tree}
 

@@ -2,9 +2,9 @@
 use Rattle.std.specs.Prelude.{Bool, true, false, List, [], ◌∷◌, Option, Some, None}
 use Rattle.vlt_ops.specs.declared.Op.{Op}
 use Rattle.vlt_ops.specs.declared.Op.TheVariants as op
-use Rattle.vlt_lexer.specs.declared.token.Word.TheVariants as word
-use Rattle.vlt_lexer.specs.declared.token.Mark.{Mark}
-use Rattle.vlt_lexer.specs.declared.token.Mark.TheVariants as mark
+use Rattle.vlt_tokens.specs.declared.token.Word.TheVariants as word
+use Rattle.vlt_tokens.specs.declared.token.Mark.{Mark}
+use Rattle.vlt_tokens.specs.declared.token.Mark.TheVariants as mark
 use Rattle.vlt_syntax.specs.Tokens.{Token, name, tick, number, keyword, sign}
 use Rattle.vlt_syntax.specs.Tree as s
 use Rattle.vlt_syntax.specs.Tree.{Name, States, KeyStates, Named, Ty, Expr, Build, Call, Init, Right, Returned, Stmt, Block, If, Else, Stmts, Arms, SetState, HeaderKey, Field, Case, Entry, ResultType, Parameter, Head, Decl, Tree}

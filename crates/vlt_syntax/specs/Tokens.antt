@@ -1,11 +1,11 @@
 -- Tokens without their places.
 use Rattle.std.specs.Prelude.{ℕ, ℤ, List, map}
-use Rattle.vlt_lexer.specs.declared.token.Word.{Word}
-use Rattle.vlt_lexer.specs.declared.token.Mark.{Mark}
-use Rattle.vlt_lexer.specs.declared.token.TokenKind.{TokenKind}
-use Rattle.vlt_lexer.specs.declared.token.TokenKind.TheVariants as kind
-use Rattle.vlt_lexer.specs.declared.token.Token.{Token as CodeToken}
-use Rattle.vlt_lexer.specs.Reading.{Lexeme}
+use Rattle.vlt_tokens.specs.declared.token.Word.{Word}
+use Rattle.vlt_tokens.specs.declared.token.Mark.{Mark}
+use Rattle.vlt_tokens.specs.declared.token.TokenKind.{TokenKind}
+use Rattle.vlt_tokens.specs.declared.token.TokenKind.TheVariants as kind
+use Rattle.vlt_tokens.specs.declared.token.Token.{Token as CodeToken}
+use Rattle.vlt_tokens.specs.Lexemes.{Lexeme}
 
 -- A token. Names have their bytes, ticks theirs with the `'`.
 pub data Token : Type 0 where

@@ -3,7 +3,7 @@ use Rattle.std.proofs.Common.{◌≡◌, ◌-◌, ◌≤◌, ℕ, zero, suc, Lis
 use Rattle.std.specs.Prelude.{slice_index_or}
 use Rattle.std.proofs.Math.Nat.{min-eq_left}
 use Rattle.vlt_base.specs.declared.places.Span.{Span}
-use Rattle.vlt_lexer.specs.Reading.{Lexeme}
+use Rattle.vlt_tokens.specs.Lexemes.{Lexeme}
 use Rattle.vlt_lexer.specs.Text.{IsTokensOf, AreSlicesOf}
 use Rattle.vlt_lexer.proofs.Slices.{tokens_slices}
 use Rattle.vlt_syntax.specs.Tree.{Tree}

@@ -1,7 +1,7 @@
 -- A fact of each token that a declaration is spelled with, whatever tokens come after it.
 use Rattle.std.proofs.Common.{List, [], ◌∷◌, Option, Some, None}
-use Rattle.vlt_lexer.specs.declared.token.Mark.{Mark}
-use Rattle.vlt_lexer.specs.declared.token.Mark.TheVariants as mark
+use Rattle.vlt_tokens.specs.declared.token.Mark.{Mark}
+use Rattle.vlt_tokens.specs.declared.token.Mark.TheVariants as mark
 use Rattle.vlt_syntax.specs.Tokens.{Token, sign}
 use Rattle.vlt_syntax.specs.Tree as s
 use Rattle.vlt_syntax.specs.Tree.{Name, States, KeyStates, Named, Ty, Expr, Build, Call, Init, Right, Returned, Stmt, Block, If, Else, Stmts, Arms, SetState, HeaderKey, Field, Case, Entry, ResultType, Parameter, Head, Decl}

@@ -4,7 +4,7 @@
 #![tactic(auto)]
 
 ghost use Rattle.std.specs.Prelude.{◌≡◌, ◌+◌, ◌<◌, ◌≤◌, ◌^◌, ℕ, List, length, map};
-ghost use Rattle.vlt_lexer.specs.Reading.{Lexeme};
+ghost use Rattle.vlt_tokens.specs.Lexemes.{Lexeme};
 ghost use Rattle.vlt_lexer.specs.Text.{IsTokensOf};
 ghost use Rattle.vlt_syntax.specs.Tree.{Decl, Tree};
 ghost use Rattle.vlt_syntax.specs.Places.{StandsIn};

@@ -4,9 +4,9 @@ use Rattle.std.proofs.lemmas.Bool.Decides.{nat_tests}
 use Rattle.vlt_ops.specs.declared.Op.{Op}
 use Rattle.vlt_ops.specs.declared.Op.TheVariants as op
 use Rattle.vlt_ops.specs.Operator.{row_of}
-use Rattle.vlt_lexer.specs.declared.token.Word.TheVariants as word
-use Rattle.vlt_lexer.specs.declared.token.Mark.{Mark}
-use Rattle.vlt_lexer.specs.declared.token.Mark.TheVariants as mark
+use Rattle.vlt_tokens.specs.declared.token.Word.TheVariants as word
+use Rattle.vlt_tokens.specs.declared.token.Mark.{Mark}
+use Rattle.vlt_tokens.specs.declared.token.Mark.TheVariants as mark
 use Rattle.vlt_syntax.specs.Tokens as t
 use Rattle.vlt_syntax.specs.Tokens.{Token}
 use Rattle.vlt_syntax.specs.Tree as s

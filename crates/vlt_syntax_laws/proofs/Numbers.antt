@@ -1,11 +1,10 @@
 -- The numbers of a text are from 0 to 2^63 - 1.
 use Rattle.std.proofs.Common.{◌≡◌, ℕ, List, subst}
 use Rattle.std.specs.Prelude.{encode_utf8_all}
-use Rattle.vlt_lexer.specs.declared.token.TokenKind.{TokenKind}
-use Rattle.vlt_lexer.specs.declared.token.TokenKind.TheVariants as kind
-use Rattle.vlt_lexer.specs.Characters.{value_of}
-use Rattle.vlt_lexer.specs.Lexemes.{IsOf}
-use Rattle.vlt_lexer.specs.Reading.{Lexeme}
+use Rattle.vlt_tokens.specs.declared.token.TokenKind.{TokenKind}
+use Rattle.vlt_tokens.specs.declared.token.TokenKind.TheVariants as kind
+use Rattle.vlt_tokens.specs.Characters.{value_of}
+use Rattle.vlt_tokens.specs.Lexemes.{IsOf, Lexeme}
 use Rattle.vlt_lexer.specs.Text.{IsTokensOf}
 use Rattle.vlt_syntax.specs.Tokens.{token_from, tokens_in}
 use Rattle.vlt_syntax.specs.Tree.{Tree}

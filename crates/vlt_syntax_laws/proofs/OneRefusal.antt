@@ -1,6 +1,6 @@
 -- By the grammar alone: tokens are refused in one way, and those of a tree in none.
 use Rattle.std.proofs.Common.{◌≡◌, ℕ, zero, suc, ◌≤◌, List, [], ◌∷◌, ◌++◌, take, slice_get, Some, refl, sym, ap, subst, ◌∙◌, inl, inr, arith, append_assoc}
-use Rattle.vlt_lexer.specs.Reading.{Lexeme}
+use Rattle.vlt_tokens.specs.Lexemes.{Lexeme}
 use Rattle.vlt_syntax.specs.Tokens.{Token, tokens_in}
 use Rattle.vlt_syntax.specs.Tree.{Tree}
 use Rattle.vlt_syntax.specs.Grammar.{IsTree, language}

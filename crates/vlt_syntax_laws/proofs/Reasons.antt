@@ -1,7 +1,7 @@
 -- What the automaton has met where it gives a verdict.
 use Rattle.std.proofs.Common.{◌≡◌, ℕ, suc, ◌<◌, Bool, true, false, if◌then◌else◌, List, [], ◌∷◌, ◌++◌, map, take, length, slice_get, Some, refl, ap, ◌∙◌, arith}
 use Rattle.std.specs.Prelude.{Ok, Err}
-use Rattle.vlt_lexer.specs.Reading.{Lexeme}
+use Rattle.vlt_tokens.specs.Lexemes.{Lexeme}
 use Rattle.vlt_syntax.specs.Tokens.{token_from, tokens_in}
 use Rattle.vlt_syntax.specs.Grammar.{language}
 use Rattle.vlt_syntax.specs.Refusals.{unexpected_at, over_limit, ended}

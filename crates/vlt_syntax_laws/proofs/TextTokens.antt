@@ -2,9 +2,9 @@
 use Rattle.std.proofs.Common.{◌≡◌, ℕ, List, []}
 use Rattle.std.specs.Prelude.{encode_utf8_all}
 use Rattle.std.specs.Str.{chars}
-use Rattle.vlt_lexer.specs.declared.token.TokenKind.{TokenKind}
-use Rattle.vlt_lexer.specs.Lexemes.{IsOf}
-use Rattle.vlt_lexer.specs.Reading.{Lexeme, Reads, nothing, gap, token}
+use Rattle.vlt_tokens.specs.declared.token.TokenKind.{TokenKind}
+use Rattle.vlt_tokens.specs.Lexemes.{IsOf, Lexeme}
+use Rattle.vlt_lexer.specs.Reading.{Reads, nothing, gap, token}
 use Rattle.vlt_lexer.specs.Text.{IsTokensOf}
 use Rattle.vlt_syntax.specs.Tokens.{Token, token_from, tokens_in}
 use Rattle.vlt_syntax.specs.Lists.{Each}

@@ -1,6 +1,6 @@
 -- A fact that each token of a part of a tree has, and each one after it: the tokens after the part have it.
 use Rattle.std.proofs.Common.{List, [], ◌∷◌, Some, None}
-use Rattle.vlt_lexer.specs.declared.token.Mark.{Mark}
+use Rattle.vlt_tokens.specs.declared.token.Mark.{Mark}
 use Rattle.vlt_syntax.specs.Tokens.{Token}
 use Rattle.vlt_syntax.specs.Tree as s
 use Rattle.vlt_syntax.specs.Lists.{Each, each_then, further_then, listed_then, enclosed_then}

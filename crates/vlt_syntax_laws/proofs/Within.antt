@@ -1,6 +1,6 @@
 -- The place of a token that is refused is one of the text.
 use Rattle.std.proofs.Common.{◌≡◌, ℕ, zero, suc, ◌≤◌, List, [], ◌∷◌, length, slice_get, Some, subst, arith}
-use Rattle.vlt_lexer.specs.Reading.{Lexeme}
+use Rattle.vlt_tokens.specs.Lexemes.{Lexeme}
 use Rattle.vlt_lexer.specs.Text.{AreSlicesOf}
 use Rattle.vlt_syntax.specs.Refusals.{unexpected_at, IsRefusal}
 

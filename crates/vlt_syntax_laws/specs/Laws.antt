@@ -1,6 +1,6 @@
 -- What the grammar's definitions give, and that the automaton decides them.
 use Rattle.std.specs.Prelude.{◌≡◌, ◌⊎◌, List, map, Ok, Err}
-use Rattle.vlt_lexer.specs.Reading.{Lexeme}
+use Rattle.vlt_tokens.specs.Lexemes.{Lexeme}
 use Rattle.vlt_syntax.specs.Tokens.{tokens_in}
 use Rattle.vlt_syntax.specs.Tree.{Tree}
 use Rattle.vlt_syntax.specs.Spelling.{spelling}

@@ -1,6 +1,6 @@
 -- How large the numbers of a tree are.
 use Rattle.std.specs.Prelude.{◌≡◌, ◌≤◌, ℕ, pos}
-use Rattle.vlt_lexer.specs.Lexemes.{max_number}
+use Rattle.vlt_tokens.specs.Lexemes.{max_number}
 use Rattle.vlt_syntax.specs.Tokens as t
 use Rattle.vlt_syntax.specs.Tokens.{Token}
 use Rattle.vlt_syntax.specs.Tree.{Tree}

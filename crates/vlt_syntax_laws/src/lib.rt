@@ -4,7 +4,7 @@
 #![tactic(auto)]
 
 ghost use Rattle.std.specs.Prelude.{List, ◌≡◌, ℕ};
-ghost use Rattle.vlt_lexer.specs.Reading.{Lexeme};
+ghost use Rattle.vlt_tokens.specs.Lexemes.{Lexeme};
 ghost use Rattle.vlt_syntax_laws.specs.Laws.{HasOneTree, HasOneRefusal, HasTreeOrRefusal, IsNeverBoth, IsAccepting, IsAcceptingTrees, IsRefusing, IsRefusingAll};
 ghost use Rattle.vlt_lexer.specs.Text.{IsTokensOf};
 ghost use Rattle.vlt_syntax.specs.Tokens.{tokens_in};

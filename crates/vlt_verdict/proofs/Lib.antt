@@ -1,4 +1,2 @@
-pub mod Judged
 pub mod Single
 pub mod Some
-pub mod OfFitLaws

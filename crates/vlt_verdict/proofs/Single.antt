@@ -8,11 +8,11 @@ use Rattle.vlt_core.specs.Faults.{FlowFault, IsFirstFault}
 use Rattle.vlt_kinds_types.specs.declared.names.found.Refusal.{Refusal}
 use Rattle.vlt_kinds_types.specs.Kinds.{Kinds}
 use Rattle.vlt_kinds.specs.Tables.{kinds_told}
-use Rattle.vlt_resolve.specs.Elaboration.{Told, broken}
+use Rattle.vlt_elaboration.specs.Elaboration.{Told, broken}
 use Rattle.vlt_core_laws.specs.Fit.{IsWellFormed}
 use Rattle.vlt_core_laws.specs.FaultLaws.{HasOneFirstFault}
-use Rattle.vlt_verdict.specs.FitLaws.Fit.{IsFitProgram, IsTextTree, ProgramsAreFit}
-use Rattle.vlt_resolve.specs.Programs.{with_kinds, program_told}
+use Rattle.vlt_fit_laws.specs.Fit.{IsFitProgram, IsTextTree, ProgramsAreFit}
+use Rattle.vlt_elaboration.specs.Programs.{with_kinds, program_told}
 use Rattle.vlt_verdict.specs.Verdicts.{IsFaultyIn, refused, faulty, accepted}
 use Rattle.vlt_verdict.specs.Laws.{GivesWellFormed, ProgramsHaveOneVerdict, HasOneVerdict}
 

@@ -2,12 +2,12 @@
 use Rattle.std.proofs.Common.{◌≡◌, inl, inr, Result, Ok, Err, refl}
 use Rattle.vlt_core.specs.Core.{Program}
 use Rattle.vlt_core_laws.specs.Fit.{IsWellFormed}
-use Rattle.vlt_verdict.specs.FitLaws.Fit.{ProgramsAreFit}
-use Rattle.vlt_resolve.specs.Elaboration.{Told}
+use Rattle.vlt_fit_laws.specs.Fit.{ProgramsAreFit}
+use Rattle.vlt_elaboration.specs.Elaboration.{Told}
 use Rattle.vlt_base.specs.Sure.{Surely}
 use Rattle.vlt_check_laws.specs.Judged.{IsJudged}
 use Rattle.vlt_base.proofs.Surely.{sure, so}
-use Rattle.vlt_resolve.specs.Programs.{program_told}
+use Rattle.vlt_elaboration.specs.Programs.{program_told}
 use Rattle.vlt_verdict.specs.Verdicts.{Verdict, refused, faulty, accepted, IsVerdict}
 use Rattle.vlt_verdict.specs.Laws.{ProgramsHaveSomeVerdict, HasSomeVerdict}
 use Rattle.vlt_verdict.proofs.Single.{gives_well_formed}

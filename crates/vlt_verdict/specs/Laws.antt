@@ -4,8 +4,8 @@ use Rattle.vlt_syntax.specs.Tree.{Tree}
 use Rattle.vlt_base.specs.Sure.{Surely}
 use Rattle.vlt_core.specs.Core.{Program}
 use Rattle.vlt_core_laws.specs.Fit.{IsWellFormed}
-use Rattle.vlt_resolve.specs.Elaboration.{Told}
-use Rattle.vlt_verdict.specs.FitLaws.Fit.{IsTextTree}
+use Rattle.vlt_elaboration.specs.Elaboration.{Told}
+use Rattle.vlt_fit_laws.specs.Fit.{IsTextTree}
 use Rattle.vlt_verdict.specs.Verdicts.{Verdict, IsVerdict, IsVerdictOf}
 
 -- A tree that a text has is of one verdict.

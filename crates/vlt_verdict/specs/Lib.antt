@@ -2,4 +2,3 @@ pub mod Verdicts
 pub mod Laws
 pub mod Seen
 pub mod Unfit
-pub mod FitLaws

@@ -5,7 +5,7 @@ use Rattle.vlt_core.specs.Core.{Func}
 use Rattle.vlt_core.specs.View.{program_of}
 use Rattle.vlt_core.specs.declared.held.FlowFault.{FlowFault}
 use Rattle.vlt_core.specs.declared.program.Program.{Program}
-use Rattle.vlt_resolve.specs.Elaboration.{broken, exceeded}
+use Rattle.vlt_elaboration.specs.Elaboration.{broken, exceeded}
 use Rattle.vlt_check.specs.Checks.{fault_of}
 use Rattle.vlt_verdict.specs.Verdicts as v
 use Rattle.vlt_verdict.specs.declared.Verdict.{Verdict}

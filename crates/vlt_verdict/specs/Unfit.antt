@@ -2,8 +2,8 @@
 use Rattle.std.specs.Prelude.{◌≡◌, Result, Ok, Err}
 use Rattle.vlt_syntax.specs.Tree.{Tree}
 use Rattle.vlt_core.specs.Core.{Program}
-use Rattle.vlt_verdict.specs.FitLaws.Unfit.{HasUnfitBody}
-use Rattle.vlt_resolve.specs.Programs.{program_told}
+use Rattle.vlt_fit_laws.specs.Unfit.{HasUnfitBody}
+use Rattle.vlt_elaboration.specs.Programs.{program_told}
 use Rattle.vlt_verdict.specs.declared.JudgeError.{JudgeError}
 use Rattle.vlt_verdict.specs.declared.JudgeError.TheVariants.{Unfit}
 

@@ -4,8 +4,8 @@ use Rattle.vlt_syntax.specs.Tree.{Tree}
 use Rattle.vlt_core.specs.Core.{Func, Program}
 use Rattle.vlt_core.specs.Derives.{IsAccepted}
 use Rattle.vlt_core.specs.Faults.{FlowFault, IsFirstFault}
-use Rattle.vlt_resolve.specs.Elaboration.{Told}
-use Rattle.vlt_resolve.specs.Programs.{program_told}
+use Rattle.vlt_elaboration.specs.Elaboration.{Told}
+use Rattle.vlt_elaboration.specs.Programs.{program_told}
 
 pub data Verdict : Type 0 where
   -- a rule on names and types, at its place, or a limit

@@ -4,11 +4,11 @@ use Rattle.vlt_core.specs.Core.{Program}
 use Rattle.vlt_core.specs.Faults.{FlowFault, IsFirstFault}
 use Rattle.vlt_kinds_types.specs.declared.names.found.Refusal.{Refusal}
 use Rattle.vlt_kinds_types.specs.Kinds.{Kinds}
-use Rattle.vlt_resolve.specs.Elaboration.{Told, broken}
+use Rattle.vlt_elaboration.specs.Elaboration.{Told, broken}
 use Rattle.vlt_iface.specs.View.{View}
 use Rattle.vlt_views.specs.Views.{view_kinds_told, view_elaborated}
 use Rattle.vlt_link_laws.specs.Link.{ViewProgramsAreJudgeable}
-use Rattle.vlt_verdict.specs.FitLaws.Fit.{IsJudgeable}
+use Rattle.vlt_fit_laws.specs.Fit.{IsJudgeable}
 use Rattle.vlt_verdict.specs.Laws.{GivesWellFormed}
 use Rattle.vlt_verdict.specs.Verdicts.{refused, faulty}
 use Rattle.vlt_view_verdict.specs.Verdicts.{with_view_kinds, view_program_told, IsVerdictOfView}

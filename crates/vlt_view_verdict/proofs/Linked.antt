@@ -4,7 +4,7 @@ use Rattle.vlt_syntax.specs.Tree.{Tree}
 use Rattle.vlt_core.specs.Core.{Program}
 use Rattle.vlt_kinds_types.specs.declared.names.found.Refusal.{Refusal}
 use Rattle.vlt_kinds_types.specs.Kinds.{Kinds}
-use Rattle.vlt_resolve.specs.Elaboration as elab
+use Rattle.vlt_elaboration.specs.Elaboration as elab
 use Rattle.vlt_iface.specs.View.{View}
 use Rattle.vlt_views.specs.Views.{view_kinds_told, view_elaborated}
 use Rattle.vlt_link_laws.specs.Link.{IsTested, TestedViewsLink}

@@ -5,7 +5,7 @@ use Rattle.vlt_core.specs.Core.{Program}
 use Rattle.vlt_iface.specs.View.{View}
 use Rattle.vlt_iface.specs.Told.{view_told, joined_told}
 use Rattle.vlt_link_laws.specs.Link.{IsAcceptedText}
-use Rattle.vlt_verdict.specs.FitLaws.Fit.{IsTextTree}
+use Rattle.vlt_fit_laws.specs.Fit.{IsTextTree}
 use Rattle.vlt_verdict.specs.Verdicts.{accepted}
 use Rattle.vlt_view_verdict.specs.Verdicts.{IsVerdictOfView}
 

@@ -2,7 +2,7 @@
 use Rattle.std.specs.Prelude.{◌≡◌, Bool, Ok}
 use Rattle.vlt_core.specs.Core.{Program}
 use Rattle.vlt_iface.specs.View.{View}
-use Rattle.vlt_verdict.specs.FitLaws.Unfit.{HasUnfitBody}
+use Rattle.vlt_fit_laws.specs.Unfit.{HasUnfitBody}
 use Rattle.vlt_view_verdict.specs.Verdicts.{view_program_told}
 
 -- a body of the view's core program is unfit for the check

@@ -3,7 +3,7 @@ use Rattle.std.specs.Prelude.{Bool, Result, Ok, Err}
 use Rattle.vlt_core.specs.Core.{Program}
 use Rattle.vlt_kinds_types.specs.declared.names.found.Refusal.{Refusal}
 use Rattle.vlt_kinds_types.specs.Kinds.{Kinds}
-use Rattle.vlt_resolve.specs.Elaboration.{Told, broken}
+use Rattle.vlt_elaboration.specs.Elaboration.{Told, broken}
 use Rattle.vlt_iface.specs.View.{View}
 use Rattle.vlt_views.specs.Views.{view_kinds_told, view_elaborated}
 use Rattle.vlt_verdict.specs.Verdicts.{Verdict, IsVerdict}

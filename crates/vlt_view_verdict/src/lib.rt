@@ -14,17 +14,18 @@ ghost use Rattle.vlt_view_verdict.specs.Unfit.{HasUnfitView};
 ghost use Rattle.vlt_view_verdict.specs.Verdicts.{IsVerdictOfView};
 ghost use Rattle.vlt_view_verdict.specs.Views.{IsViewOfTexts};
 
+mod programs;
+
+pub use programs::elaborate_view;
 use std::alloc::Global;
 use vlt_check::{CheckError, check};
+use vlt_fit_laws::only_bodies_are_unfit;
 use vlt_iface::View;
 use vlt_kinds::KindError;
 use vlt_link_laws::{tested_views_link, told_views_are_trees, view_programs_are_judgeable};
 use vlt_resolve::ElabError;
-use vlt_verdict::{
-    JudgeError, Verdict, only_bodies_are_unfit, programs_have_one_verdict,
-    programs_have_some_verdict,
-};
-use vlt_views::{elaborate_view, tables_view};
+use vlt_verdict::{JudgeError, Verdict, programs_have_one_verdict, programs_have_some_verdict};
+use vlt_views::tables_view;
 
 /// What a view of texts is as a program; the rule on `main` is tested where one is wanted. `Unfit` where its program is
 /// (`HasUnfitView`).

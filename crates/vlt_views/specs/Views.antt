@@ -12,7 +12,7 @@ use Rattle.vlt_kinds_decls.specs.Decls.{types_refused}
 use Rattle.vlt_kinds_heads.specs.Phase.{heads_refused}
 use Rattle.vlt_kinds_types.specs.Kinds.{Kinds}
 use Rattle.vlt_kinds.specs.Tables.{kinds_of, unless}
-use Rattle.vlt_resolve.specs.Elaboration.{Told, broken, elaborated}
+use Rattle.vlt_elaboration.specs.Elaboration.{Told, broken, elaborated}
 use Rattle.vlt_iface.specs.declared.places.TheConstants.{RAISE}
 use Rattle.vlt_iface.specs.View.{View}
 use Rattle.vlt_views.specs.Hidden.{hidden_names, own_refused}

@@ -1,32 +1,23 @@
-//! Kinds and core programs of views: the view of an interface with a module in, its table of kinds and its core program out, or
-//! the first rule or limit that refuses it.
-//! Read `specs/Views.antt` first, then `Hidden`.
+//! Kinds of views: the view of an interface with a module in, its table of kinds out, or the first rule that refuses it.
+//! Read `specs/Views.antt` first, which also says what the core program of a view is, then `Hidden`.
 //! Used by: verdicts on views, and the laws on modules.
 #![tactic(auto)]
 
-ghost use Rattle.std.specs.Prelude.{◌≡◌, Some, Ok, Err, IfOk};
+ghost use Rattle.std.specs.Prelude.{◌≡◌, Ok, Err, IfOk};
 ghost use Rattle.vlt_syntax.specs.View.{tree_of};
 ghost use Rattle.vlt_syntax.specs.Grammar.{IsTree, language};
-ghost use Rattle.vlt_core.specs.View.{program_of};
-ghost use Rattle.vlt_core.specs.declared.rules.TheConstants.{NO_MAIN};
 ghost use Rattle.vlt_kinds.specs.Tables.{OnRefused};
 ghost use Rattle.vlt_kinds_types.specs.Seen.{kinds_seen};
-ghost use Rattle.vlt_resolve.specs.Elaboration.{broken};
-ghost use Rattle.vlt_resolve.specs.Refusals.{OnTold, error_seen};
-ghost use Rattle.vlt_iface.specs.declared.places.TheConstants as p;
 ghost use Rattle.vlt_iface.specs.Seen.{view_seen};
-ghost use Rattle.vlt_views.specs.Views.{view_kinds_told, view_elaborated};
+ghost use Rattle.vlt_views.specs.Views.{view_kinds_told};
 
 mod hidden;
 mod tables;
 
 use std::alloc::Global;
-use vlt_core::Program;
-use vlt_iface::{RAISE, View};
+use vlt_iface::View;
 use vlt_kinds::KindError;
-use vlt_kinds_decls::has_main;
-use vlt_kinds_types::{Kinds, rules};
-use vlt_resolve::{ElabError, elaborate};
+use vlt_kinds_types::Kinds;
 
 /// What a view declares, by the rules on names, on types and on heads. The rule on `main` isn't tested.
 ///
@@ -41,40 +32,4 @@ pub fn tables_view<'a>(alloc: Global, view: &'a View) -> Result<Kinds<'a>, KindE
     ensures refused { OnRefused result (λ r. view_kinds_told (view_seen view.now) ≡ Err r) }
 {
     tables::kinds_of(alloc, view.tree.decls.as_slice(), view.origins.as_slice())
-}
-
-/// There is no function with a body that is named `main`: this is told at the module's first byte.
-fn no_main() -> ElabError
-    ensures { error_seen result ≡ Some (broken NO_MAIN p.RAISE) }
-{
-    ElabError::Rule {
-        rule: rules::NO_MAIN,
-        at: RAISE,
-    }
-}
-
-/// The core program of a view whose declarations are of these kinds.
-///
-/// Where a main is wanted, the rule on it comes first. Then the bodies are read in the order of the view, and the first
-/// refusal is told. At one place limits go before rules, and lesser numbers before greater ones.
-///
-/// # Errors
-///
-/// `Rule` with the rule that refuses and its place in the view, `Limit` with the limit that a function exceeds, `Memory` where
-/// there is too little.
-pub fn elaborate_view(
-    alloc: Global,
-    view: &View,
-    kinds: &Kinds<'_>,
-    with_main: bool,
-) -> Result<Program, ElabError>
-    ensures ok { IfOk result (λ p. view_elaborated (view_seen view.now) (kinds_seen kinds.now)
-        with_main ≡ Ok (program_of p)) }
-    ensures refused { OnTold result (λ t. view_elaborated (view_seen view.now)
-        (kinds_seen kinds.now) with_main ≡ Err t) }
-{
-    if with_main && !has_main(view.tree.decls.as_slice()) {
-        return Err(no_main());
-    }
-    elaborate(alloc, &view.tree, kinds)
 }

@@ -6,11 +6,11 @@ use Rattle.std.proofs.Math.Utf8.{scalar, scalars}
 use Rattle.std.proofs.lemmas.Bool.{and_parts, and_from}
 use Rattle.std.proofs.lemmas.Option.{same_Some, none-some}
 use Rattle.std.proofs.lemmas.Str.{scalars-chars}
-use Rattle.vlt_lexer.specs.declared.token.TokenKind.{TokenKind}
-use Rattle.vlt_lexer.specs.declared.token.TokenKind.TheVariants as kind
-use Rattle.vlt_lexer.specs.Characters.{after_line, following, or_else, after_close}
-use Rattle.vlt_lexer.specs.Lexemes.{IsOf}
-use Rattle.vlt_lexer.specs.Reading.{Lexeme, IsGap, blank, line, block, Reads, nothing, gap, token}
+use Rattle.vlt_tokens.specs.declared.token.TokenKind.{TokenKind}
+use Rattle.vlt_tokens.specs.declared.token.TokenKind.TheVariants as kind
+use Rattle.vlt_tokens.specs.Characters.{after_line, following, or_else, after_close}
+use Rattle.vlt_tokens.specs.Lexemes.{IsOf, Lexeme}
+use Rattle.vlt_lexer.specs.Reading.{IsGap, blank, line, block, Reads, nothing, gap, token}
 use Rattle.vlt_lexer.specs.Text.{IsTokensOf}
 use Rattle.vlt_syntax.specs.Tokens as t
 use Rattle.vlt_syntax.specs.Tokens.{Token, token_from, tokens_in}

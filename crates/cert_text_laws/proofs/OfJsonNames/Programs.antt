@@ -17,9 +17,9 @@ use Rattle.vlt_kinds_heads.specs.Keys.{Keys, keys_of}
 use Rattle.vlt_kinds_heads.specs.Phase.{key_decl, core_parameter, core_head, core_heads_in}
 use Rattle.vlt_kinds_types.specs.Kinds.{Kinds}
 use Rattle.vlt_kinds.specs.Tables.{kinds_of}
-use Rattle.vlt_resolve.specs.Walk.Walk.{then_do, walk_stmts}
-use Rattle.vlt_resolve.specs.Elaboration as elab
-use Rattle.vlt_resolve.specs.Elaboration.{body_scope, body_around, nameless_scope, end_refused, func_made, walk_body, is_function, walk_function, walk_decls}
+use Rattle.vlt_elaboration.specs.Walk.{then_do, walk_stmts}
+use Rattle.vlt_elaboration.specs.Elaboration as elab
+use Rattle.vlt_elaboration.specs.Elaboration.{body_scope, body_around, nameless_scope, end_refused, func_made, walk_body, is_function, walk_function, walk_decls}
 use Rattle.vlt_resolve_laws.specs.Elaborated.{IsElaborated}
 use Rattle.vlt_resolve_laws.proofs.Results.{same_ok, then_ok, unless_ok}
 use Rattle.vlt_resolve_laws.proofs.Made.{told, all_walked}

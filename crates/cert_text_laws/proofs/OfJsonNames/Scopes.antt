@@ -16,13 +16,13 @@ use Rattle.vlt_resolve_exprs.specs.Exprs.{wanted_refused}
 use Rattle.vlt_resolve_exprs.specs.Bindings.{with_vars, with_several}
 use Rattle.vlt_resolve_calls.specs.Builds.{Case}
 use Rattle.vlt_resolve_rights.specs.News.{hides, with_object, with_hidden}
-use Rattle.vlt_resolve_stmts.specs.Around.{Around, inside_loop, inside_focus}
-use Rattle.vlt_resolve_stmts.specs.Declarations.{is_known_key, binds_key, with_bound_key, declared_target, declared_became, hidden_became, keyed_became, declare_became, assign_became}
-use Rattle.vlt_resolve_stmts.specs.Statements.{opened_parts, opened_became, open_became, returned_build, return_became, simple_refused, simple_became}
-use Rattle.vlt_resolve_parts.specs.Switches.{arm_names, switch_refused, arm_case, arm_refused, arm_scope, focus_refused, bound_scope}
-use Rattle.vlt_resolve.specs.Walk.Blocks.{closing, else_closing, ends}
-use Rattle.vlt_resolve.specs.Walk.Walk.{late, walk_stmts, walk_stmt, walk_block, walk_if, walk_else, walk_chained, walk_arms, walk_arm, walk_simple}
-use Rattle.vlt_resolve.specs.Elaboration.{is_fresh_key, with_key_names, with_var_names, nameless_scope, body_scope}
+use Rattle.vlt_elaboration.specs.Around.{Around, inside_loop, inside_focus}
+use Rattle.vlt_elaboration.specs.Declarations.{is_known_key, binds_key, with_bound_key, declared_target, declared_became, hidden_became, keyed_became, declare_became, assign_became}
+use Rattle.vlt_elaboration.specs.Statements.{opened_parts, opened_became, open_became, returned_build, return_became, simple_refused, simple_became}
+use Rattle.vlt_elaboration.specs.Switches.{arm_names, switch_refused, arm_case, arm_refused, arm_scope, focus_refused, bound_scope}
+use Rattle.vlt_elaboration.specs.Blocks.{closing, else_closing, ends}
+use Rattle.vlt_elaboration.specs.Walk.{late, walk_stmts, walk_stmt, walk_block, walk_if, walk_else, walk_chained, walk_arms, walk_arm, walk_simple}
+use Rattle.vlt_elaboration.specs.Elaboration.{is_fresh_key, with_key_names, with_var_names, nameless_scope, body_scope}
 use Rattle.vlt_resolve_laws.proofs.Results.{same_ok, then_ok, unless_ok}
 use Rattle.cert_rows.specs.Parts.{All}
 use Rattle.cert_text_laws.proofs.OfJsonNames.Characters.{HasText}

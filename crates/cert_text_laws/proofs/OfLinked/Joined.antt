@@ -10,12 +10,12 @@ use Rattle.vlt_core.specs.Core.{Program}
 use Rattle.vlt_kinds_types.specs.declared.names.found.Refusal.{Refusal}
 use Rattle.vlt_kinds_types.specs.Kinds.{Kinds}
 use Rattle.vlt_kinds.specs.Tables.{kinds_told}
-use Rattle.vlt_resolve.specs.Elaboration.{Told, broken}
-use Rattle.vlt_resolve.specs.Programs.{with_kinds, program_told}
+use Rattle.vlt_elaboration.specs.Elaboration.{Told, broken}
+use Rattle.vlt_elaboration.specs.Programs.{with_kinds, program_told}
 use Rattle.vlt_iface.specs.declared.places.TheConstants.{RAISE}
 use Rattle.vlt_iface.specs.View.{joined}
-use Rattle.vlt_verdict.specs.FitLaws.Fit.{IsTextTree}
-use Rattle.vlt_verdict.specs.FitLaws.Texts.{TextsHaveTextTrees}
+use Rattle.vlt_fit_laws.specs.Fit.{IsTextTree}
+use Rattle.vlt_fit_laws.specs.Texts.{TextsHaveTextTrees}
 use Rattle.vlt_link_laws.proofs.Joining.{joined_each, joined_tokens}
 use Rattle.cert_text_laws.specs.Texts.{IsInText, IsShort, IsProgramOfTexts}
 use Rattle.cert_text_laws.proofs.InTexts.{spelled_in, short_in}

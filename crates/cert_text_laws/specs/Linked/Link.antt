@@ -2,13 +2,13 @@
 use Rattle.std.specs.Prelude.{◌≡◌, ◌≤◌, ℕ, List, length, Ok}
 use Rattle.vlt_base.specs.Limits.{limit_of}
 use Rattle.vlt_base.specs.declared.limits.TheConstants.{TOKENS}
-use Rattle.vlt_lexer.specs.Reading.{Lexeme}
+use Rattle.vlt_tokens.specs.Lexemes.{Lexeme}
 use Rattle.vlt_lexer.specs.Text.{IsTokensOf}
 use Rattle.vlt_syntax.specs.Tokens.{tokens_in}
 use Rattle.vlt_syntax.specs.Tree.{Tree}
 use Rattle.vlt_syntax.specs.Grammar.{IsTreeOf}
 use Rattle.vlt_core.specs.Core.{Program}
-use Rattle.vlt_resolve.specs.Programs.{program_told}
+use Rattle.vlt_elaboration.specs.Programs.{program_told}
 use Rattle.vlt_iface.specs.Told.{joined_told}
 use Rattle.cert_text_laws.specs.Texts.{IsProgramOfTexts}
 

@@ -1,4 +1,4 @@
-use Rattle.vlt_lexer.specs.Text.{lexemes}
+use Rattle.vlt_tokens.specs.Lexemes.{lexemes}
 use Rattle.vlt_lexer.proofs.OneAnswer.{one_list, all_tokens, all_refusals, all_slices}
 use Rattle.vlt_lexer.proofs.lex.Goals as goal
 

@@ -2,8 +2,9 @@ use Rattle.std.proofs.Common.{◌≡◌, ◌-◌, ◌≤◌, ◌<◌, ◌++◌, 
 use Rattle.std.specs.Str.{chars, IsUtf8}
 use Rattle.std.proofs.lemmas.Grind.{common_steps}
 use Rattle.vlt_base.specs.Limits.{limit_of}
-use Rattle.vlt_lexer.specs.Reading.{Lexeme, IsGap, IsToken, IsStuck, Reads, nothing, token}
-use Rattle.vlt_lexer.specs.Text.{lexeme, lexemes, IsRefused}
+use Rattle.vlt_tokens.specs.Lexemes.{Lexeme, lexeme, lexemes}
+use Rattle.vlt_lexer.specs.Reading.{IsGap, IsToken, IsStuck, Reads, nothing, token}
+use Rattle.vlt_lexer.specs.Text.{IsRefused}
 use Rattle.vlt_lexer.specs.Places.{error_at}
 use Rattle.vlt_lexer.proofs.Bytes.{width_chars}
 use Rattle.vlt_lexer.proofs.Found.{Stands}

@@ -19,8 +19,8 @@ use Rattle.vlt_resolve_calls.specs.Builds.{Case, case_of_tick, case_form, core_b
 use Rattle.vlt_resolve_rights.specs.Adopts.{core_adopt}
 use Rattle.vlt_resolve_calls.specs.Calls.{given}
 use Rattle.vlt_resolve_rights.specs.News.{uses_refused, hides, hidden_refused, with_object, with_hidden}
-use Rattle.vlt_resolve_stmts.specs.Rights.{input_refused, target_right_refused, right_refused, target_right_forms, right_forms}
-use Rattle.vlt_resolve_stmts.specs.Declarations.{Became, is_known_key, binds_key, bound_key_refused, with_bound_key, type_refused, key_number, declared_ty, declared_target, hidden_right_refused, declared_refused, declared_became, hidden_became, keyed_refused, keyed_became, declare_refused, declare_became, plain_target, assigned_target, assign_refused, assign_became}
+use Rattle.vlt_elaboration.specs.Rights.{input_refused, target_right_refused, right_refused, target_right_forms, right_forms}
+use Rattle.vlt_elaboration.specs.Declarations.{Became, is_known_key, binds_key, bound_key_refused, with_bound_key, type_refused, key_number, declared_ty, declared_target, hidden_right_refused, declared_refused, declared_became, hidden_became, keyed_refused, keyed_became, declare_refused, declare_became, plain_target, assigned_target, assign_refused, assign_became}
 use Rattle.vlt_iface.specs.Clash.{key_bound}
 use Rattle.vlt_link_laws.specs.Moves.Sees.{Sees, moved_scope, IsFree, AreFree}
 use Rattle.vlt_link_laws.proofs.OfMoves.Empty.{no_left, no_right, none_of_both}

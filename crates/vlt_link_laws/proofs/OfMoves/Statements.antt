@@ -25,9 +25,9 @@ use Rattle.vlt_resolve_exprs.specs.Bindings.{too_many_vars, several_refused}
 use Rattle.vlt_resolve_calls.specs.Builds.{build_refused, core_build}
 use Rattle.vlt_resolve_calls.specs.Calls.{dropped, has_fresh, core_call}
 use Rattle.vlt_resolve_rights.specs.Droppable.{may_drop_struct, may_drop}
-use Rattle.vlt_resolve_stmts.specs.Around.{Around}
-use Rattle.vlt_resolve_stmts.specs.Declarations.{Became}
-use Rattle.vlt_resolve_stmts.specs.Statements.{put_refused, core_put, is_releasable, release_refused, release_form, state_of, state_refused, become_refused, tracked_type, core_become, swapped_misfit, owner_refused, swapped_field_refused, base_refused, swap_refused, core_swap, owning_types, parts_of, opened_parts, unopened_refused, opened_refused, open_refused, opened_became, open_became, same_but_key, gives_back, fresh_misfit, fresh_refused, value_refused, value_refused_for, build_refused_for, built_refused, returned_refused, gives_value, differ, return_refused, hidden_operand, returned_value, returned_build, return_became, jump_refused, simple_refused, alone, simple_became}
+use Rattle.vlt_elaboration.specs.Around.{Around}
+use Rattle.vlt_elaboration.specs.Declarations.{Became}
+use Rattle.vlt_elaboration.specs.Statements.{put_refused, core_put, is_releasable, release_refused, release_form, state_of, state_refused, become_refused, tracked_type, core_become, swapped_misfit, owner_refused, swapped_field_refused, base_refused, swap_refused, core_swap, owning_types, parts_of, opened_parts, unopened_refused, opened_refused, open_refused, opened_became, open_became, same_but_key, gives_back, fresh_misfit, fresh_refused, value_refused, value_refused_for, build_refused_for, built_refused, returned_refused, gives_value, differ, return_refused, hidden_operand, returned_value, returned_build, return_became, jump_refused, simple_refused, alone, simple_became}
 use Rattle.vlt_iface.specs.Clash.{bound_names}
 use Rattle.vlt_link_laws.specs.Moves.Walks.{moved_around}
 use Rattle.vlt_link_laws.specs.Moves.Sees.{Sees, moved_scope, AreFree}

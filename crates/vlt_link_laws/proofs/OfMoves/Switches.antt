@@ -19,7 +19,7 @@ use Rattle.vlt_resolve_exprs.specs.Types.{then_with}
 use Rattle.vlt_resolve_exprs.specs.Scopes.{Scope, with_focus_key, with_var}
 use Rattle.vlt_resolve_exprs.specs.Bindings.{new_key_refused, new_var_refused}
 use Rattle.vlt_resolve_calls.specs.Builds.{Case, cases_of, case_at, case_in, case_of_tick}
-use Rattle.vlt_resolve_parts.specs.Switches.{arm_names, is_among, are_distinct, case_names, all_among, covers, variant_covered, cases_refused, switch_refused, arm_case, arm_refused, arm_scope, arm_numbers, focused_type, focused_refused, focus_ty, keyed_scope, bound_scope, bound_refused, focus_refused}
+use Rattle.vlt_elaboration.specs.Switches.{arm_names, is_among, are_distinct, case_names, all_among, covers, variant_covered, cases_refused, switch_refused, arm_case, arm_refused, arm_scope, arm_numbers, focused_type, focused_refused, focus_ty, keyed_scope, bound_scope, bound_refused, focus_refused}
 use Rattle.vlt_link_laws.specs.Moves.Apt.{HasArm}
 use Rattle.vlt_link_laws.specs.Moves.Sees.{Sees, moved_scope, AreFree}
 use Rattle.vlt_link_laws.proofs.OfMoves.Empty.{cons_not_nil, no_left, no_right, none_of_both, not_broken, quiet, not_false}

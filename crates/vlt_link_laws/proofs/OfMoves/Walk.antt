@@ -14,12 +14,12 @@ use Rattle.vlt_resolve_exprs.specs.Refused.{unknown_name}
 use Rattle.vlt_resolve_exprs.specs.Scopes.{Scope, var_named, var_ty, scope_inside, scope_after, bound_in}
 use Rattle.vlt_resolve_exprs.specs.Exprs.{wanted_refused, core_expr, number_of, var_number}
 use Rattle.vlt_resolve_calls.specs.Builds.{Case}
-use Rattle.vlt_resolve_stmts.specs.Around.{Around, inside_loop, inside_focus}
-use Rattle.vlt_resolve_stmts.specs.Declarations.{Became, assign_refused}
-use Rattle.vlt_resolve_stmts.specs.Statements.{simple_refused, simple_became}
-use Rattle.vlt_resolve.specs.Walk.Blocks.{stmt_place, ends, closing, else_closing}
-use Rattle.vlt_resolve_parts.specs.Switches.{arm_names, switch_refused, arm_case, arm_refused, arm_scope, arm_numbers, case_number, focus_refused, bound_scope}
-use Rattle.vlt_resolve.specs.Walk.Walk.{then_do, unless_refused, late, placed_at, block_made, one, walk_simple, walk_stmts, walk_stmt, walk_block, walk_if, walk_else, walk_chained, walk_arms, walk_arm}
+use Rattle.vlt_elaboration.specs.Around.{Around, inside_loop, inside_focus}
+use Rattle.vlt_elaboration.specs.Declarations.{Became, assign_refused}
+use Rattle.vlt_elaboration.specs.Statements.{simple_refused, simple_became}
+use Rattle.vlt_elaboration.specs.Blocks.{stmt_place, ends, closing, else_closing}
+use Rattle.vlt_elaboration.specs.Switches.{arm_names, switch_refused, arm_case, arm_refused, arm_scope, arm_numbers, case_number, focus_refused, bound_scope}
+use Rattle.vlt_elaboration.specs.Walk.{then_do, unless_refused, late, placed_at, block_made, one, walk_simple, walk_stmts, walk_stmt, walk_block, walk_if, walk_else, walk_chained, walk_arms, walk_arm}
 use Rattle.vlt_iface.specs.Clash.{bound_names}
 use Rattle.vlt_link_laws.specs.Moves.Sees.{Sees, moved_scope, AreFree}
 use Rattle.vlt_link_laws.specs.Moves.Apt.{IsApt, IsAptBlock, IsAptIf, IsAptElse, IsAptStmts, IsAptArms}

@@ -13,10 +13,10 @@ use Rattle.vlt_resolve_exprs.specs.Types.{then_with}
 use Rattle.vlt_resolve_exprs.specs.Scopes.{Scope, as_var, tok_named, var_named, ty_in, var_ty, more_key, more_var, with_key, with_var, with_focus_key, scope_inside, scope_after}
 use Rattle.vlt_resolve_exprs.specs.Bindings.{with_vars, with_several}
 use Rattle.vlt_resolve_rights.specs.News.{hides, with_object, with_hidden}
-use Rattle.vlt_resolve_stmts.specs.Around.{Around}
-use Rattle.vlt_resolve_stmts.specs.Declarations.{is_known_key, with_bound_key, declare_became, keyed_became, hidden_became, declared_became, assign_became}
+use Rattle.vlt_elaboration.specs.Around.{Around}
+use Rattle.vlt_elaboration.specs.Declarations.{is_known_key, with_bound_key, declare_became, keyed_became, hidden_became, declared_became, assign_became}
 use Rattle.vlt_link_laws.specs.Moves.Whole.{InRange, AreInRange, IsWhole}
-use Rattle.vlt_resolve_stmts.specs.Statements.{opened_became, opened_parts, open_became, returned_build, return_became, simple_became}
+use Rattle.vlt_elaboration.specs.Statements.{opened_became, opened_parts, open_became, returned_build, return_became, simple_became}
 
 more_range : (n k : ℕ) (t : Tok) → n ≤ k → InRange n t → InRange k t
 more_range n k (a_var v) le h = omega (arith, le, h)

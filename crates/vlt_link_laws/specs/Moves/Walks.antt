@@ -7,8 +7,8 @@ use Rattle.vlt_core.specs.Core.{Form}
 use Rattle.vlt_link_laws.specs.CoreMoves.Moves.{Moves, moved_ty, moved_form}
 use Rattle.vlt_kinds_types.specs.Kinds.{Kinds}
 use Rattle.vlt_resolve_exprs.specs.Scopes.{Scope}
-use Rattle.vlt_resolve_stmts.specs.Around.{Around}
-use Rattle.vlt_resolve.specs.Walk.Walk.{walk_stmts}
+use Rattle.vlt_elaboration.specs.Around.{Around}
+use Rattle.vlt_elaboration.specs.Walk.{walk_stmts}
 use Rattle.vlt_link_laws.specs.Moves.Sees.{Sees, moved_scope}
 use Rattle.vlt_link_laws.specs.Moves.Apt.{IsAptStmts}
 use Rattle.vlt_link_laws.specs.Moves.Whole.{IsWhole}

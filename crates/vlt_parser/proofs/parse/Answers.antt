@@ -1,6 +1,6 @@
 use Rattle.std.proofs.Common.{◌≡◌, Err, [], ◌∷◌, ap, ◌∙◌, rules, arith}
 use Rattle.std.proofs.lemmas.Grind.{common_steps}
-use Rattle.vlt_lexer.specs.Text.{lexemes}
+use Rattle.vlt_tokens.specs.Lexemes.{lexemes}
 use Rattle.vlt_automaton.specs.Language as m
 use Rattle.vlt_parser.specs.Declarations.{decls_left}
 use Rattle.vlt_syntax.specs.Tree.{Tree}

@@ -1,7 +1,7 @@
 use Rattle.std.proofs.Common.{Err, refl, sym, ap, ap₂, ◌∙◌}
 use Rattle.vlt_core.specs.View.{program_of}
 use Rattle.vlt_kinds_types.specs.declared.names.found.Refusal.{Refusal}
-use Rattle.vlt_resolve.specs.Elaboration.{broken}
+use Rattle.vlt_elaboration.specs.Elaboration.{broken}
 use Rattle.vlt_check.specs.Checks.{fault_of}
 use Rattle.vlt_iface.specs.Seen.{view_seen}
 use Rattle.vlt_verdict.specs.Verdicts.{refused, faulty, accepted}

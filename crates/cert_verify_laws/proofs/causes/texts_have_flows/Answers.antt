@@ -1,6 +1,6 @@
 use Rattle.std.proofs.Common.{subst}
 use Rattle.cert_fit_laws.specs.Limits.{IsLimitedProgram}
-use Rattle.vlt_verdict.specs.FitLaws.Fit.{IsFitProgram}
+use Rattle.vlt_fit_laws.specs.Fit.{IsFitProgram}
 use Rattle.cert_verify_laws.specs.Causes.{HasFlows}
 use Rattle.cert_verify_laws.proofs.Emitting.{text_tree}
 use Rattle.cert_verify_laws.proofs.Flows.{have_flows}

@@ -2,7 +2,8 @@ use Rattle.std.proofs.Common.{◌≡◌, ◌≤◌, length, Err, subst, rules, a
 use Rattle.std.proofs.lemmas.Grind.{common_steps}
 use Rattle.vlt_base.specs.Limits.{limit_of}
 use Rattle.vlt_base.specs.declared.limits.TheConstants.{TOKENS}
-use Rattle.vlt_lexer.specs.Text.{IsTokensOf, lexemes}
+use Rattle.vlt_tokens.specs.Lexemes.{lexemes}
+use Rattle.vlt_lexer.specs.Text.{IsTokensOf}
 use Rattle.vlt_syntax.specs.Grammar.{IsPlacedTreeOf}
 use Rattle.vlt_syntax.specs.View.{tree_of}
 use Rattle.vlt_parser.specs.Refusals.{IsRefusedFor}

@@ -1,6 +1,6 @@
 use Rattle.std.proofs.Common.{◌≡◌, drop}
 use Rattle.std.specs.Str.{chars}
-use Rattle.vlt_lexer.specs.Spelling.{sign_text}
+use Rattle.vlt_tokens.specs.Spelling.{sign_text}
 use Rattle.vlt_lexer.specs.Steps.{first_beginning}
 use Rattle.vlt_lexer.proofs.scan.first_begun.Given as goal
 

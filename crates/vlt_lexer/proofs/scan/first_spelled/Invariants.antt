@@ -1,5 +1,5 @@
 use Rattle.std.proofs.Common.{◌≡◌, drop}
-use Rattle.vlt_lexer.specs.Spelling.{word_text}
+use Rattle.vlt_tokens.specs.Spelling.{word_text}
 use Rattle.vlt_lexer.specs.Steps.{item_with_text}
 use Rattle.vlt_lexer.proofs.scan.first_spelled.Given as goal
 

@@ -1,6 +1,6 @@
 use Rattle.std.proofs.Common.{◌≡◌, ◌≤◌, ◌+◌, length, drop}
 use Rattle.std.specs.Str.{chars, IsUtf8}
-use Rattle.vlt_lexer.specs.Characters.{following}
+use Rattle.vlt_tokens.specs.Characters.{following}
 use Rattle.vlt_lexer.proofs.scan.following.Given as goal
 
 abbrev pub invariant-loop-want : goal.invariant-loop-want

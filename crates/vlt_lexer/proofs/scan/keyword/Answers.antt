@@ -1,7 +1,7 @@
 use Rattle.std.proofs.Common.{◌∙◌, ap, refl}
-use Rattle.vlt_lexer.specs.Spelling.{word_text}
+use Rattle.vlt_tokens.specs.Spelling.{word_text}
 use Rattle.vlt_lexer.specs.Steps.{item_with_text, keyword_of}
-use Rattle.vlt_lexer.specs.declared.token.TheConstants.Word as words
+use Rattle.vlt_tokens.specs.declared.token.TheConstants.Word as words
 use Rattle.vlt_lexer.proofs.Tables.{spelled_at}
 use Rattle.vlt_lexer.proofs.scan.keyword.Goals as goal
 

@@ -1,8 +1,8 @@
 use Rattle.std.proofs.Common.{◌≡◌, ◌-◌, ◌∙◌, ap, true, false, Some, None, length, take, sym, subst, rules, arith}
 use Rattle.std.specs.Str.{chars, IsUtf8}
 use Rattle.std.proofs.lemmas.Grind.{common_steps}
-use Rattle.vlt_lexer.specs.Characters.{is_blank, is_digit}
-use Rattle.vlt_lexer.specs.Lexemes.{IsOf}
+use Rattle.vlt_tokens.specs.Characters.{is_blank, is_digit}
+use Rattle.vlt_tokens.specs.Lexemes.{IsOf}
 use Rattle.vlt_lexer.specs.Reading.{blank}
 use Rattle.vlt_lexer.specs.Steps.{past_name, sign_of, keyword_of, kind_of, IsNoComment}
 use Rattle.vlt_lexer.proofs.Bytes.{front_bytes}

@@ -1,6 +1,6 @@
 use Rattle.std.proofs.Common.{◌≡◌, ◌≤◌, ℕ, length}
 use Rattle.std.specs.Str.{chars, IsUtf8}
-use Rattle.vlt_lexer.specs.Characters.{is_digit, value_after, value_of}
+use Rattle.vlt_tokens.specs.Characters.{is_digit, value_after, value_of}
 use Rattle.vlt_lexer.specs.Steps.{run, past_run, Holds}
 use Rattle.vlt_lexer.proofs.scan.number.Given as goal
 

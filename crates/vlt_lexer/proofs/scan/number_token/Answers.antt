@@ -1,7 +1,7 @@
 use Rattle.std.proofs.Common.{◌++◌, ◌∙◌, ap, Some, None, sym, rules, arith}
 use Rattle.std.specs.Str.{chars, IsUtf8}
 use Rattle.std.proofs.lemmas.Grind.{common_steps}
-use Rattle.vlt_lexer.specs.Characters.{is_digit, value_of}
+use Rattle.vlt_tokens.specs.Characters.{is_digit, value_of}
 use Rattle.vlt_lexer.specs.Steps.{run, Holds}
 use Rattle.vlt_lexer.proofs.Bytes.{shorter_by}
 use Rattle.vlt_lexer.proofs.Found.{digits_some, number_back, number_stands, number_stuck}

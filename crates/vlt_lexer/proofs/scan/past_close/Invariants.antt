@@ -1,6 +1,6 @@
 use Rattle.std.proofs.Common.{◌≡◌, ◌≤◌, length}
 use Rattle.std.specs.Str.{chars, IsUtf8}
-use Rattle.vlt_lexer.specs.Characters.{after_close}
+use Rattle.vlt_tokens.specs.Characters.{after_close}
 use Rattle.vlt_lexer.proofs.scan.past_close.Given as goal
 
 abbrev pub decreases-loop-after : goal.decreases-loop-after

@@ -2,7 +2,7 @@ use Rattle.std.proofs.Common.{◌≡◌, Some, rules, arith}
 use Rattle.std.specs.Prelude.{codes}
 use Rattle.std.specs.Str.{chars}
 use Rattle.std.proofs.lemmas.Grind.{common_steps}
-use Rattle.vlt_lexer.specs.Characters.{following, after_close}
+use Rattle.vlt_tokens.specs.Characters.{following, after_close}
 use Rattle.vlt_lexer.proofs.Found.{line_gap, block_gap}
 use Rattle.vlt_lexer.proofs.scan.past_comment.Goals as goal
 

@@ -1,8 +1,8 @@
 use Rattle.std.proofs.Common.{◌≡◌, ◌∙◌, ap, sym, subst, MatchOption, None, Some, filter}
 use Rattle.std.specs.Str.{chars}
 use Rattle.vlt_lexer.specs.Steps.{first_beginning, may_begin, sign_of}
-use Rattle.vlt_lexer.specs.Spelling.{sign_text}
-use Rattle.vlt_lexer.specs.declared.token.TheConstants.Mark as signs
+use Rattle.vlt_tokens.specs.Spelling.{sign_text}
+use Rattle.vlt_tokens.specs.declared.token.TheConstants.Mark as signs
 use Rattle.vlt_lexer.proofs.Tables.{begun_from}
 use Rattle.vlt_lexer.proofs.scan.sign.Goals as goal
 

@@ -1,7 +1,7 @@
 use Rattle.std.proofs.Common.{◌≡◌, ◌≤◌, ◌+◌, suc, max, Err, [], ◌∷◌, ap, sym, subst, ◌∙◌, rules, arith}
 use Rattle.std.proofs.lemmas.Grind.{common_steps}
 use Rattle.std.proofs.lemmas.Result.{err_from_is_err_and}
-use Rattle.vlt_lexer.specs.declared.token.TokenKind.TheVariants.{Name}
+use Rattle.vlt_tokens.specs.declared.token.TokenKind.TheVariants.{Name}
 use Rattle.vlt_syntax.specs.Tree as s
 use Rattle.vlt_syntax.specs.View.{expr_of}
 use Rattle.vlt_automaton.specs.Language as m

@@ -1,6 +1,6 @@
 use Rattle.std.proofs.Common.{◌≡◌, ◌+◌, Err, List, ◌∷◌, ◌∙◌, subst, rules, arith}
 use Rattle.std.proofs.lemmas.Grind.{common_steps}
-use Rattle.vlt_lexer.specs.declared.token.TokenKind.TheVariants.{Tick, Name}
+use Rattle.vlt_tokens.specs.declared.token.TokenKind.TheVariants.{Tick, Name}
 use Rattle.vlt_automaton.specs.Language as m
 use Rattle.vlt_automaton.specs.Language.{Symbol, run}
 use Rattle.vlt_parser_exprs.specs.Ahead.{lexemes_from, BeginsWith}

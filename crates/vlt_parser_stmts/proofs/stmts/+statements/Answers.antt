@@ -1,5 +1,5 @@
 use Rattle.std.proofs.Common.{◌≡◌, ℕ, ◌+◌, Err, rules, refl, subst, ◌-◌, [], ◌∷◌, ◌++◌, List, map, sym, ap, ◌∙◌, arith}
-use Rattle.vlt_lexer.specs.declared.token.TokenKind.TheVariants as kind
+use Rattle.vlt_tokens.specs.declared.token.TokenKind.TheVariants as kind
 use Rattle.vlt_syntax.specs.Tokens.{Token, keyword}
 use Rattle.vlt_syntax.specs.declared.tree.Arm.{Arm}
 use Rattle.vlt_syntax.specs.Spelling.{stmts_then, arms_then}
@@ -8,13 +8,13 @@ use Rattle.vlt_syntax.proofs.Viewing.{while_seen, if_seen}
 use Rattle.vlt_syntax.specs.View.{expr_of, block_of, else_of, stmt_of, stmts_made, arm_of, arms_of, arms_made}
 use Rattle.std.proofs.lemmas.Grind.{common_steps}
 use Rattle.std.proofs.lemmas.Result.{err_from_is_err_and}
-use Rattle.vlt_lexer.specs.declared.token.Word.TheVariants as word
-use Rattle.vlt_lexer.specs.declared.token.Mark.TheVariants as mark
+use Rattle.vlt_tokens.specs.declared.token.Word.TheVariants as word
+use Rattle.vlt_tokens.specs.declared.token.Mark.TheVariants as mark
 use Rattle.vlt_automaton.specs.Language as m
 use Rattle.vlt_automaton.specs.Language.{Symbol, run}
 use Rattle.vlt_parser_exprs.specs.Ahead.{lexemes_from, BeginsWith}
 use Rattle.vlt_parser_stmts.proofs.Blocks.{arm_is, stmts_one, arms_one, block_is, focus_is, switch_is, otherwise_some, else_if, else_block, stmt_block, stmt_enters}
-use Rattle.vlt_lexer.specs.declared.token.Token.{Token as CodeToken}
+use Rattle.vlt_tokens.specs.declared.token.Token.{Token as CodeToken}
 use Rattle.vlt_syntax.specs.Places.{stmts_at, arms_at}
 use Rattle.vlt_parser_exprs.specs.Reading.{tokens_from, Stands}
 use Rattle.vlt_parser_stmts.proofs.Placings.{stmts_append, arms_append, while_stands, if_stands}

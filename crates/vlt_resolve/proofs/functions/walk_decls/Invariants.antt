@@ -2,7 +2,7 @@ use Rattle.std.proofs.Common.{◌≡◌, drop, map, length}
 use Rattle.vlt_syntax.specs.View.{decl_of}
 use Rattle.vlt_core.specs.View.{func_of}
 use Rattle.vlt_kinds_types.specs.Seen.{kinds_seen}
-use Rattle.vlt_resolve.specs.Elaboration as e
+use Rattle.vlt_elaboration.specs.Elaboration as e
 use Rattle.vlt_resolve.proofs.Steps.{after_funcs}
 use Rattle.vlt_resolve.proofs.functions.walk_decls.Given as goal
 

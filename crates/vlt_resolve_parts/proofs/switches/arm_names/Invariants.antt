@@ -1,6 +1,6 @@
 use Rattle.std.proofs.Common.{◌≡◌, ◌++◌, drop}
 use Rattle.vlt_syntax.specs.View.{arms_of}
-use Rattle.vlt_resolve_parts.specs.Switches as s
+use Rattle.vlt_elaboration.specs.Switches as s
 use Rattle.vlt_resolve_parts.specs.Seen.{texts_seen}
 use Rattle.vlt_resolve_parts.proofs.switches.arm_names.Given as goal
 

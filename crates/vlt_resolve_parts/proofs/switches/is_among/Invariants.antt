@@ -1,5 +1,5 @@
 use Rattle.std.proofs.Common.{◌≡◌, drop}
-use Rattle.vlt_resolve_parts.specs.Switches as s
+use Rattle.vlt_elaboration.specs.Switches as s
 use Rattle.vlt_resolve_parts.specs.Seen.{texts_seen}
 use Rattle.vlt_resolve_parts.proofs.switches.is_among.Given as goal
 

@@ -1,0 +1,9 @@
+pub mod Rights
+pub mod Around
+pub mod Declarations
+pub mod Statements
+pub mod Switches
+pub mod Blocks
+pub mod Walk
+pub mod Elaboration
+pub mod Programs

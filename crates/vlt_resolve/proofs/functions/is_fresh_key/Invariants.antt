@@ -1,7 +1,0 @@
-use Rattle.std.proofs.Common.{◌≡◌, drop, map}
-use Rattle.vlt_core.specs.View.{entry_of}
-use Rattle.vlt_resolve.specs.Elaboration as e
-use Rattle.vlt_resolve.proofs.functions.is_fresh_key.Given as goal
-
-abbrev pub invariant-loop-entry : goal.invariant-loop-entry
-invariant-loop-entry l = e.is_fresh_key (map entry_of l.clause) l.key ≡ e.is_fresh_key (map entry_of (drop l.entry-index l.clause)) l.key

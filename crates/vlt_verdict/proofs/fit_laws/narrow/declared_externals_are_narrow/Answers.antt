@@ -1,5 +1,0 @@
-use Rattle.vlt_verdict.proofs.OfFitLaws.NarrowLaws.{externals_narrow}
-use Rattle.vlt_verdict.proofs.fit_laws.narrow.declared_externals_are_narrow.Goals as goal
-
-pub returns : goal.returns
-returns c = λ ds p passed has externals. externals_narrow ds p passed has externals
