@@ -46,9 +46,6 @@ module _ (k : ℕ) (rs : List Row) (a b : Block) where
 -- ---- a loop
 
 module _ (k : ℕ) (rs : List Row) (s : Block) where
-  pub turn_head : 2 ^ 64 ≤ k + 1 → LargeBlock (k + 1 + length rs) s
-  turn_head h = inl (omega (arith, h))
-
   pub turn_rows : 2 ^ 64 ≤ k + 1 + length rs → LargeBlock (k + 1 + length rs) s
   turn_rows h = inl (omega (arith, h))
 

@@ -8,7 +8,7 @@ pub mod Forms
 pub mod Turns
 pub mod Runs
 pub mod Large
+pub mod Between
 pub mod Ends
 pub mod Starting
 pub mod Showing
-mod Unfitting

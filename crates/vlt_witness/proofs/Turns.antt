@@ -33,12 +33,11 @@ sees_fresh M L A R e x = record {
   all = x.all;
 }
 
-module _ (a : Aim) (at k : ℕ) (rs : List Row) (s : Block) (V P : List Way) (m0 m1 m2 : List Seen) (j : Jumps) (w : Went)
+module _ (a : Aim) (at k : ℕ) (rs : List Row) (s : Block) (V P : List Way) (m0 m1 : List Seen) (j : Jumps) (w : Went)
     (every : IsEvery (On V)) (all : (o : One) → IsSmall o → (cs : List Choice) × On V o o cs) (none : m0 ≡ [])
-    (head : Sees (JoinHere a (head_spot at k)) (On V) (OnSeen m0) (OnSeen m1))
-    (x : Walks (Passes (aim_tok a) rs) (On V) nothing_found (On P)) (y : Sees (RowsHere a at rs) (On V) (OnSeen m1) (OnSeen m2)) where
+    (x : Walks (Passes (aim_tok a) rs) (On V) nothing_found (On P)) (y : Sees (EitherSight (JoinHere a (head_spot at k)) (RowsHere a at rs)) (On V) (OnSeen m0) (OnSeen m1)) where
   pub turned : (r : Turned) (i : Jumps) → i.continues ≡ [] → Walks (Takes (choice at exit)) (On P) nothing_found (On i.breaks) →
-      IsSearched (WayBy (aim_tok a) (choice at turn) s) (SeenBy a (choice at turn) (k + 1 + length rs) s) (k + 1 + length rs + spots_block s) P i j m2 r.met w →
+      IsSearched (WayBy (aim_tok a) (choice at turn) s) (SeenBy a (choice at turn) (k + 1 + length rs) s) (k + 1 + length rs + spots_block s) P i j m1 r.met w →
       Joined (On w.next) (On j.continues) (On r.turn) → r.leave ≡ j.breaks → r.number ≡ w.number → IsTurned a at k rs s r
   turned r i fresh out way joined left n =
       let t = aim_tok a in
@@ -61,9 +60,11 @@ module _ (a : Aim) (at k : ℕ) (rs : List Row) (s : Block) (V P : List Way) (m0
       let H = JoinHere a (head_spot at k) in
       let R = RowsHere a at rs in
       let I = RowedSight t rs S in
-      let inside = sees_rowed t rs S (On V) (On P) (OnSeen m2) (OnSeen r.met) x way.met in
-      let sight = sees_both H (EitherSight R I) (On V) nothing_found (OnSeen m1) (OnSeen r.met) (sees_fresh H (On V) m0 (OnSeen m1) none head) (sees_both R I (On V) (OnSeen m1) (OnSeen m2) (OnSeen r.met) y inside) in
-      let met = sees_map (EitherSight H (EitherSight R I)) (TurnSight a at k rs s) (On V) nothing_found (OnSeen r.met) (λ e o cs z. z) (λ e o cs z. z) sight in
+      let inside = sees_rowed t rs S (On V) (On P) (OnSeen m1) (OnSeen r.met) x way.met in
+      let sight = sees_both (EitherSight H R) I (On V) nothing_found (OnSeen m1) (OnSeen r.met) (sees_fresh (EitherSight H R) (On V) m0 (OnSeen m1) none y) inside in
+      let met = sees_map (EitherSight (EitherSight H R) I) (TurnSight a at k rs s) (On V) nothing_found (OnSeen r.met)
+      (λ e o cs. ⊎_elim (⊎_elim (λ z. inl z) (λ z. inr (inl z))) (λ z. inr (inr z)))
+      (λ e o cs. ⊎_elim (λ z. inl (inl z)) (⊎_elim (λ z. inl (inr z)) (λ z. inr z))) sight in
       record {
         turn = table (Leads (TurnLeg t at rs s)) (CanLead (TurnLeg t at rs s)) (On V) (On r.turn) every all leg;
         leave = subst (λ l. IsTable (Leads (LeaveLeg t at rs s)) (CanLead (LeaveLeg t at rs s)) (On l)) (sym left) (table (Leads (LeaveLeg t at rs s)) (CanLead (LeaveLeg t at rs s)) (On V) (On j.breaks) every all leave);

@@ -127,6 +127,10 @@ LargeForm k s = IsLarge (k + spots s) (HasPart NoRows HasManyArms s)
 abbrev pub LargeBlock : (k : ℕ) → Block → Type 0
 LargeBlock k s = IsLarge (k + spots_block s) (HasLongSwitch s)
 
+-- an arm of this position
+abbrev pub LargeArm : (k i : ℕ) → List Row → Block → Type 0
+LargeArm k i rs s = (2 ^ 8 ≤ i) ⊎ LargeBlock (k + length rs) s
+
 abbrev pub LargeStmts : (k : ℕ) → Stmts → Type 0
 LargeStmts k ss = IsLarge (k + spots_stmts ss) (HasPartStmts NoRows HasManyArms ss)
 
@@ -148,7 +152,7 @@ abbrev pub SearchesWay : Aim → (at : ℕ) → Pick → (k : ℕ) → Block →
 SearchesWay a at pick k s L j j' m m' r = MatchResult r (SearchedWay a at pick k s L j j' m m') (UnfitBy (LargeBlock k s))
 
 abbrev pub SearchesArm : Aim → (at k i : ℕ) → List Row → Block → List Way → Jumps → Jumps → List Seen → List Seen → Result Went RowError → Type 0
-SearchesArm a at k i rs s L j j' m m' r = MatchResult r (SearchedArm a at k i rs s L j j' m m') (UnfitBy (LargeBlock (k + length rs) s))
+SearchesArm a at k i rs s L j j' m m' r = MatchResult r (SearchedArm a at k i rs s L j j' m m') (UnfitBy (LargeArm k i rs s))
 
 abbrev pub SearchesArms : Aim → (at k i : ℕ) → Arms → List Way → Jumps → Jumps → List Seen → List Seen → Result Went RowError → Type 0
 SearchesArms a at k i arms L j j' m m' r = MatchResult r (SearchedArms a at k i arms L j j' m m') (UnfitBy (LargeArms k arms))

@@ -1,9 +1,9 @@
 //! The paths that show a fault.
 
-ghost use Rattle.std.specs.Prelude.{◌≡◌, ◌↔◌, List, Option, Some, None, IfOk, IfErr, IfSome, MatchResult, slice_get};
+ghost use Rattle.std.specs.Prelude.{◌≡◌, ◌↔◌, Some, None, IfOk, IfErr, IfSome, MatchResult, slice_get};
 ghost use Rattle.std.specs.Option.{option_map, option_copied};
 ghost use Rattle.vlt_core.specs.Found.{One, Has};
-ghost use Rattle.vlt_core.specs.Witness as w;
+ghost use Rattle.vlt_core.specs.Derives.{start_map};
 ghost use Rattle.vlt_core.specs.Instances.{instance};
 ghost use Rattle.vlt_core.specs.Witness.{IsWitness, IsWitnessIn};
 ghost use Rattle.vlt_core.specs.HeldView.{wanted_of};
@@ -11,6 +11,7 @@ ghost use Rattle.vlt_core.specs.View.{program_of, func_of, tok_of};
 ghost use Rattle.vlt_core.specs.FaultView.{choices_of};
 ghost use Rattle.vlt_core_laws.specs.Sweep.{In};
 ghost use Rattle.vlt_faults.specs.Finding.Ones.{many_of};
+ghost use Rattle.vlt_flow_maps.specs.Unfit.{HasNoStart};
 ghost use Rattle.vlt_keyset.specs.Held.{map_of};
 ghost use Rattle.vlt_rows.specs.FlowView.{block_view};
 ghost use Rattle.vlt_rows.specs.Unfit.{UnfitBy};
@@ -20,7 +21,7 @@ ghost use Rattle.vlt_witness.specs.Ways.{end_of_join, IsSeen, OnSeen};
 ghost use Rattle.vlt_paths.specs.Shown.{ShowsIn};
 ghost use Rattle.vlt_witness.specs.Unfit.{IsUnfit, IsUnfitIn, IsUnfitAt};
 ghost use Rattle.vlt_witness.specs.Parts.{LargeBlock};
-ghost use Rattle.vlt_witness.specs.Shows.{ArePaths, IsPair, HasNoPair, IsShownRow, IsShownJoin, IsShownBy};
+ghost use Rattle.vlt_witness.specs.Shows.{ArePaths, GivesPath, GivesPaths, IsPair, IsShownRow, IsShownJoin, IsShownBy};
 
 use crate::aim::{Aim, Goal};
 use crate::search::{no_jumps, search_block};
@@ -80,11 +81,7 @@ fn find(
     list: &[Seen],
     join: Option<JoinName>,
 ) -> Result<Option<Items<Choice>>, AllocError>
-    ensures some { IfOk result (λ r.
-        IfSome r (λ cs. (f : One) × OnSeen list.now f (end_of_join join) (choices_of cs))) }
-    ensures none { IfOk result (λ r. r ≡ None →
-        (f : One) (cs : List w.Choice) →
-        OnSeen list.now f (end_of_join join) cs → ⊥) }
+    ensures { IfOk result (GivesPath (OnSeen list.now) (end_of_join join)) }
 {
     for seen in list {
         if is_same_join(seen.join, join) {
@@ -104,14 +101,8 @@ fn row_paths(
     body: &FlowBlock,
     ones: Ones,
 ) -> Result<Option<Paths>, RowError>
-    ensures some { IfOk result (λ r.
-        IfSome r (λ x. IsShownRow (block_view body.now) (In (many_of ones)) (tok_of tok) at
-        (wanted_of wanted) (choices_of x.first) (option_map choices_of x.second))) }
-    ensures none { IfOk result (λ r. r ≡ None →
-        (first : List w.Choice) (second : Option (List w.Choice)) →
-        IsShownRow (block_view body.now) (In (many_of ones)) (tok_of tok) at (wanted_of wanted)
-        first second → ⊥) }
-    ensures unfit { IfErr result (UnfitBy (LargeBlock 0 (block_view body.now))) }
+    ensures { MatchResult result (GivesPaths (IsShownRow (block_view body.now) (In (many_of ones))
+        (tok_of tok) at (wanted_of wanted))) (UnfitBy (LargeBlock 0 (block_view body.now))) }
 {
     let aim = Aim {
         tok,
@@ -136,11 +127,7 @@ fn second_of(
     present: &[Seen],
 ) -> Result<Option<Paths>, AllocError>
     requires { seen.now.join ≡ Some join }
-    ensures some { IfOk result (λ r.
-        IfSome r (λ x. IsPair (IsSeen seen.now) (OnSeen present.now) (choices_of x.first)
-        (option_map choices_of x.second))) }
-    ensures none { IfOk result (λ r. r ≡ None →
-        HasNoPair (IsSeen seen.now) (OnSeen present.now)) }
+    ensures { IfOk result (GivesPaths (IsPair (IsSeen seen.now) (OnSeen present.now))) }
 {
     match find(alloc, present, Some(join))? {
         None => Ok(None),
@@ -156,11 +143,7 @@ fn second_of(
 
 /// A path, and another one to its join.
 fn other(alloc: Global, seen: &Seen, present: &[Seen]) -> Result<Option<Paths>, AllocError>
-    ensures some { IfOk result (λ r.
-        IfSome r (λ x. IsPair (IsSeen seen.now) (OnSeen present.now) (choices_of x.first)
-        (option_map choices_of x.second))) }
-    ensures none { IfOk result (λ r. r ≡ None →
-        HasNoPair (IsSeen seen.now) (OnSeen present.now)) }
+    ensures { IfOk result (GivesPaths (IsPair (IsSeen seen.now) (OnSeen present.now))) }
 {
     match seen.join {
         None => Ok(None),
@@ -170,11 +153,7 @@ fn other(alloc: Global, seen: &Seen, present: &[Seen]) -> Result<Option<Paths>, 
 
 /// Two paths to one join.
 fn pair(alloc: Global, absent: &[Seen], present: &[Seen]) -> Result<Option<Paths>, AllocError>
-    ensures some { IfOk result (λ r.
-        IfSome r (λ x. IsPair (OnSeen absent.now) (OnSeen present.now) (choices_of x.first)
-        (option_map choices_of x.second))) }
-    ensures none { IfOk result (λ r. r ≡ None →
-        HasNoPair (OnSeen absent.now) (OnSeen present.now)) }
+    ensures { IfOk result (GivesPaths (IsPair (OnSeen absent.now) (OnSeen present.now))) }
 {
     for seen in absent {
         match other(alloc, seen, present)? {
@@ -193,14 +172,8 @@ fn join_paths(
     body: &FlowBlock,
     ones: Ones,
 ) -> Result<Option<Paths>, RowError>
-    ensures some { IfOk result (λ r.
-        IfSome r (λ x. IsShownJoin (block_view body.now) (In (many_of ones)) (tok_of tok) at
-        (choices_of x.first) (option_map choices_of x.second))) }
-    ensures none { IfOk result (λ r. r ≡ None →
-        (first : List w.Choice) (second : Option (List w.Choice)) →
-        IsShownJoin (block_view body.now) (In (many_of ones)) (tok_of tok) at first second →
-        ⊥) }
-    ensures unfit { IfErr result (UnfitBy (LargeBlock 0 (block_view body.now))) }
+    ensures { MatchResult result (GivesPaths (IsShownJoin (block_view body.now) (In (many_of ones))
+        (tok_of tok) at)) (UnfitBy (LargeBlock 0 (block_view body.now))) }
 {
     let absent = Aim {
         tok,
@@ -214,10 +187,7 @@ fn join_paths(
     };
     let first = all_paths(alloc, absent, body, ones)?;
     let second = all_paths(alloc, present, body, ones)?;
-    match pair(alloc, first.as_slice(), second.as_slice())? {
-        None => Ok(None),
-        Some(found) => Ok(Some(found)),
-    }
+    Ok(pair(alloc, first.as_slice(), second.as_slice())?)
 }
 
 fn paths_of(
@@ -226,19 +196,24 @@ fn paths_of(
     body: &FlowBlock,
     ones: Ones,
 ) -> Result<Option<Paths>, RowError>
-    ensures some { IfOk result (λ r.
-        IfSome r (λ x. IsShownBy (block_view body.now) (In (many_of ones)) (fault_of fault.now)
-        (choices_of x.first) (option_map choices_of x.second))) }
-    ensures none { IfOk result (λ r. r ≡ None →
-        (first : List w.Choice) (second : Option (List w.Choice)) →
-        IsShownBy (block_view body.now) (In (many_of ones)) (fault_of fault.now) first second →
-        ⊥) }
-    ensures unfit { IfErr result (UnfitBy (LargeBlock 0 (block_view body.now))) }
+    ensures { MatchResult result (GivesPaths (IsShownBy (block_view body.now) (In (many_of ones))
+        (fault_of fault.now))) (UnfitBy (LargeBlock 0 (block_view body.now))) }
 {
     match fault.kind {
         FaultKind::Row { wanted, .. } => row_paths(alloc, fault.tok, fault.at, wanted, body, ones),
         FaultKind::Join { .. } => join_paths(alloc, fault.tok, fault.at, body, ones),
     }
+}
+
+/// The single statuses that the fault's token begins with in its instance of a function.
+fn start_of(alloc: Global, p: &Program, f: &Func, fault: &FlowFault) -> Result<Ones, RowError>
+    ensures { MatchResult result (λ ones. (o : One) → In (many_of ones) o ↔ Has (start_map
+        (program_of p.now) (instance (program_of p.now) (func_of f.now) fault.now.origin)
+        (tok_of fault.now.tok)) o) (UnfitBy (HasNoStart (program_of p.now)
+        (instance (program_of p.now) (func_of f.now) fault.now.origin))) }
+{
+    let start = start_map_of(alloc, p, f, fault.origin)?;
+    Ok(start_ones(&start, fault.tok))
 }
 
 /// The paths in a function's body in the fault's instance.
@@ -248,24 +223,14 @@ fn paths_in(
     f: &Func,
     fault: &FlowFault,
 ) -> Result<Option<Paths>, RowError>
-    ensures some { IfOk result (λ r. IfSome r (λ x. IsWitnessIn (program_of p.now)
-        (instance (program_of p.now) (func_of f.now) fault.now.origin) (fault_of fault.now)
-        (choices_of x.first) (option_map choices_of x.second))) }
-    ensures none { IfOk result (λ r. r ≡ None →
-        (first : List w.Choice) (second : Option (List w.Choice)) →
-        IsWitnessIn (program_of p.now)
-        (instance (program_of p.now) (func_of f.now) fault.now.origin)
-        (fault_of fault.now) first second → ⊥) }
-    ensures unfit { IfErr result (UnfitBy (IsUnfit (program_of p.now)
+    ensures { MatchResult result (GivesPaths (IsWitnessIn (program_of p.now)
+        (instance (program_of p.now) (func_of f.now) fault.now.origin) (fault_of fault.now)))
+        (UnfitBy (IsUnfit (program_of p.now)
         (instance (program_of p.now) (func_of f.now) fault.now.origin))) }
 {
     let flow = body_flow(alloc, p, f, fault.origin)?;
-    let start = start_map_of(alloc, p, f, fault.origin)?;
-    let ones = start_ones(&start, fault.tok);
-    match paths_of(alloc, fault, &flow, ones)? {
-        None => Ok(None),
-        Some(found) => Ok(Some(found)),
-    }
+    let ones = start_of(alloc, p, f, fault)?;
+    paths_of(alloc, fault, &flow, ones)
 }
 
 fn func_at(p: &Program, fn_id: FnId) -> Option<&Func>
@@ -282,21 +247,14 @@ fn paths_at(
     f: &Func,
     fault: &FlowFault,
 ) -> Result<Option<Paths>, RowError>
-    ensures some { IfOk result (λ r. IfSome r (λ x. ShowsIn (program_of p.now) (func_of f.now)
-        (fault_of fault.now) (choices_of x.first) (option_map choices_of x.second))) }
-    ensures none { IfOk result (λ r. r ≡ None →
-        (first : List w.Choice) (second : Option (List w.Choice)) →
-        ShowsIn (program_of p.now) (func_of f.now) (fault_of fault.now) first second → ⊥) }
-    ensures unfit { IfErr result (UnfitBy (IsUnfitIn (program_of p.now) (func_of f.now)
+    ensures { MatchResult result (GivesPaths (ShowsIn (program_of p.now) (func_of f.now)
+        (fault_of fault.now))) (UnfitBy (IsUnfitIn (program_of p.now) (func_of f.now)
         (fault_of fault.now))) }
 {
     if !has_instance(p, f, fault.origin) {
         return Ok(None);
     }
-    match paths_in(alloc, p, f, fault)? {
-        None => Ok(None),
-        Some(found) => Ok(Some(found)),
-    }
+    paths_in(alloc, p, f, fault)
 }
 
 /// The paths of a witness of the fault, if it has one.

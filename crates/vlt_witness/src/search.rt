@@ -1,12 +1,15 @@
 //! The search: through each part of a body once, from every status at the head of a loop.
 
-ghost use Rattle.std.specs.Prelude.{◌≡◌, ◌+◌, ◌≤◌, ◌^◌, [], MatchResult, OnOk};
-ghost use Rattle.vlt_core.specs.Flow.{step, choose, loop, switch, focus, return, jump};
+ghost use Rattle.std.specs.Prelude.{◌≡◌, ◌+◌, ◌≤◌, ◌^◌, [], map, IfOk, MatchResult, OnOk};
+ghost use Rattle.vlt_core.specs.Maps.{away_row};
+ghost use Rattle.vlt_core.specs.Flow.{choose, loop, switch, focus, return, jump};
 ghost use Rattle.vlt_witness.specs.declared.search.Jumps.{Jumps as JumpsSpec};
 ghost use Rattle.vlt_core.specs.HeldView.{toks_of};
 ghost use Rattle.vlt_rows.specs.FlowView.{flow_view, block_view, stmts_view, arm_view, arms_view, rows_view};
 ghost use Rattle.vlt_rows.specs.Unfit.{UnfitBy};
+ghost use Rattle.vlt_rows.specs.declared.sink.RowError.TheVariants.{Memory};
 ghost use Rattle.vlt_witness.specs.Parts.{SearchesForm, SearchesBlock, SearchesStmts, SearchesArm, SearchesArms, SearchesWay, IsLanded, SearchesTurn};
+ghost use Rattle.vlt_witness.specs.Between.{Counts, PassesRows, Arrives, AreTogether, EntersArm, BeginsTurn, EndsTurn, LeavesLoop};
 
 use crate::aim::Aim;
 use crate::rows::{gone_rows, pass};
@@ -42,6 +45,68 @@ fn following(number: usize, count: usize) -> Result<usize, RowError>
     }
 }
 
+/// The ways go on after so many rows and joins.
+fn counted(next: Items<Way>, number: usize, count: usize) -> Result<Went, RowError>
+    ensures { Counts next (number + count) result }
+{
+    match number.checked_add(count) {
+        Some(number) => Ok(Went { next, number }),
+        None => Err(RowError::Unfit),
+    }
+}
+
+/// Takes ways through rows, and counts these.
+fn pass_rows(
+    alloc: Global,
+    aim: Aim,
+    rows: &[Row],
+    at: u32,
+    number: usize,
+    ways: Items<Way>,
+    met: &mut Items<Seen>,
+) -> Result<Went, RowError>
+    ensures { PassesRows aim at number (rows_view rows.now) ways met.old met.new result }
+{
+    let next = pass(alloc, aim, at, rows, ways, met)?;
+    counted(next, number, rows.len())
+}
+
+/// Takes ways out of a scope with these tokens.
+fn leave(
+    alloc: Global,
+    aim: Aim,
+    left: &[Tok],
+    at: u32,
+    number: usize,
+    ways: Items<Way>,
+    met: &mut Items<Seen>,
+) -> Result<Went, RowError>
+    ensures { PassesRows aim at number (map away_row (toks_of left.now)) ways met.old met.new
+        result }
+{
+    let rows = gone_rows(alloc, left)?;
+    pass_rows(alloc, aim, rows.as_slice(), at, number, ways, met)
+}
+
+/// Takes ways to the join after a part, and counts it.
+fn arrive(
+    alloc: Global,
+    aim: Aim,
+    at: u32,
+    number: usize,
+    ways: Items<Way>,
+    met: &mut Items<Seen>,
+) -> Result<Went, RowError>
+    ensures { Arrives aim at number ways met.old met.new result }
+{
+    let here = JoinName {
+        is_head: false,
+        number,
+    };
+    see_join(alloc, aim, here, at, ways.as_slice(), met)?;
+    counted(ways, number, 1)
+}
+
 pub fn no_jumps(alloc: Global) -> Jumps
     ensures breaks { result.breaks ≡ [] }
     ensures continues { result.continues ≡ [] }
@@ -67,7 +132,7 @@ fn search_form(
         met.new result }
 {
     match form {
-        Flow::Step { rows } => search_step(alloc, aim, rows.as_slice(), at, number, ways, met),
+        Flow::Step { rows } => pass_rows(alloc, aim, rows.as_slice(), at, number, ways, met),
         Flow::If {
             rows,
             then_block,
@@ -126,25 +191,6 @@ fn search_form(
     }
 }
 
-fn search_step(
-    alloc: Global,
-    aim: Aim,
-    rows: &[Row],
-    at: u32,
-    number: usize,
-    ways: Items<Way>,
-    met: &mut Items<Seen>,
-) -> Result<Went, RowError>
-    ensures { (j : JumpsSpec) → SearchesForm aim at number (step (rows_view rows.now)) ways j j
-        met.old met.new result }
-{
-    let next = pass(alloc, aim, at, rows, ways, met)?;
-    Ok(Went {
-        next,
-        number: following(number, rows.len())?,
-    })
-}
-
 /// Nothing comes after a return.
 fn search_return(
     alloc: Global,
@@ -158,10 +204,10 @@ fn search_return(
     ensures { (j : JumpsSpec) → SearchesForm aim at number (return (rows_view rows.now)) ways j j
         met.old met.new result }
 {
-    let _ended = pass(alloc, aim, at, rows, ways, met)?;
+    let ended = pass_rows(alloc, aim, rows, at, number, ways, met)?;
     Ok(Went {
         next: Items::new(alloc),
-        number: following(number, rows.len())?,
+        number: ended.number,
     })
 }
 
@@ -195,10 +241,7 @@ fn search_jump(
     let rows = gone_rows(alloc, left)?;
     let gone = pass(alloc, aim, at, rows.as_slice(), ways, met)?;
     land(alloc, jumps, continues, gone.as_slice())?;
-    Ok(Went {
-        next: Items::new(alloc),
-        number: following(number, left.len())?,
-    })
+    counted(Items::new(alloc), number, left.len())
 }
 
 /// An arm of an `if`, by its choice.
@@ -221,6 +264,18 @@ fn search_way(
     search_block(alloc, aim, block, number, picked, jumps, met)
 }
 
+/// The ways of one arm of an `if` and of the other.
+fn together(alloc: Global, first: Went, second: Went) -> Result<Went, AllocError>
+    ensures { IfOk result (AreTogether first second) }
+{
+    let mut next = first.next;
+    join(alloc, &mut next, second.next.as_slice())?;
+    Ok(Went {
+        next,
+        number: second.number,
+    })
+}
+
 #[cycle(search)]
 fn search_if(
     alloc: Global,
@@ -237,41 +292,31 @@ fn search_if(
     ensures { SearchesForm aim at number (choose (rows_view rows.now) (block_view then_block.now)
         (block_view else_block.now)) ways jumps.old jumps.new met.old met.new result }
 {
-    let passed = pass(alloc, aim, at, rows, ways, met)?;
-    let inside = following(number, rows.len())?;
-    let a = search_way(
+    let passed = pass_rows(alloc, aim, rows, at, number, ways, met)?;
+    let first = search_way(
         alloc,
         aim,
         Pick::Then,
         then_block,
         at,
-        inside,
-        passed.as_slice(),
+        passed.number,
+        passed.next.as_slice(),
         jumps,
         met,
     )?;
-    let b = search_way(
+    let second = search_way(
         alloc,
         aim,
         Pick::Else,
         else_block,
         at,
-        a.number,
-        passed.as_slice(),
+        first.number,
+        passed.next.as_slice(),
         jumps,
         met,
     )?;
-    let mut next = a.next;
-    join(alloc, &mut next, b.next.as_slice())?;
-    let here = JoinName {
-        is_head: false,
-        number: b.number,
-    };
-    see_join(alloc, aim, here, else_block.end, next.as_slice(), met)?;
-    Ok(Went {
-        next,
-        number: following(b.number, 1)?,
-    })
+    let went = together(alloc, first, second)?;
+    arrive(alloc, aim, else_block.end, went.number, went.next, met)
 }
 
 /// What a turn of a loop leads to from each status at its head.
@@ -283,6 +328,56 @@ pub struct Turned {
     pub leave: Items<Way>,
     pub met: Items<Seen>,
     pub number: usize,
+}
+
+/// A turn of a loop as it begins, from each status at the head.
+#[derive(Drop)]
+pub struct Begun {
+    /// After the rows of the condition.
+    pub passed: Items<Way>,
+    /// Those that leave the loop there.
+    pub leave: Items<Way>,
+    pub number: usize,
+}
+
+fn begin_turn(
+    alloc: Global,
+    aim: Aim,
+    rows: &[Row],
+    at: u32,
+    number: usize,
+    met: &mut Items<Seen>,
+) -> Result<Begun, RowError>
+    ensures { BeginsTurn aim at number (rows_view rows.now) met.old met.new result }
+{
+    let heads = every(alloc)?;
+    let here = JoinName {
+        is_head: true,
+        number,
+    };
+    see_join(alloc, aim, here, at, heads.as_slice(), met)?;
+    let passed = pass(alloc, aim, at, rows, heads, met)?;
+    let leave = chosen(alloc, passed.as_slice(), at, Pick::Exit)?;
+    let first = following(following(number, 1)?, rows.len())?;
+    Ok(Begun {
+        passed,
+        leave,
+        number: first,
+    })
+}
+
+/// A turn as it ends: by the end of the body, and by jumps inside.
+fn end_turn(alloc: Global, end: Went, inside: Jumps, met: Items<Seen>) -> Result<Turned, RowError>
+    ensures { MatchResult result (EndsTurn end inside met) (λ e. e ≡ Memory) }
+{
+    let mut turn = end.next;
+    join(alloc, &mut turn, inside.continues.as_slice())?;
+    Ok(Turned {
+        turn,
+        leave: inside.breaks,
+        met,
+        number: end.number,
+    })
 }
 
 #[cycle(search)]
@@ -297,37 +392,40 @@ fn search_turn(
     ensures { SearchesTurn aim at number (rows_view rows.now) (block_view body.now) result }
 {
     let mut met = Items::new(alloc);
-    let heads = every(alloc)?;
-    let here = JoinName {
-        is_head: true,
-        number,
-    };
-    see_join(alloc, aim, here, at, heads.as_slice(), &mut met)?;
-    let passed = pass(alloc, aim, at, rows, heads, &mut met)?;
+    let begun = begin_turn(alloc, aim, rows, at, number, &mut met)?;
     let mut inside = Jumps {
-        breaks: chosen(alloc, passed.as_slice(), at, Pick::Exit)?,
+        breaks: begun.leave,
         continues: Items::new(alloc),
     };
-    let first = following(following(number, 1)?, rows.len())?;
     let end = search_way(
         alloc,
         aim,
         Pick::Turn,
         body,
         at,
-        first,
-        passed.as_slice(),
+        begun.number,
+        begun.passed.as_slice(),
         &mut inside,
         &mut met,
     )?;
-    let mut turn = end.next;
-    join(alloc, &mut turn, inside.continues.as_slice())?;
-    Ok(Turned {
-        turn,
-        leave: inside.breaks,
-        met,
-        number: end.number,
-    })
+    end_turn(alloc, end, inside, met)
+}
+
+/// Goes on from the head of a loop, by any number of turns and out of it.
+fn leave_loop(
+    alloc: Global,
+    aim: Aim,
+    end: u32,
+    turned: &Turned,
+    ways: &[Way],
+    met: &mut Items<Seen>,
+) -> Result<Went, RowError>
+    ensures { LeavesLoop aim end turned.now ways.now met.old met.new result }
+{
+    let heads = close(alloc, ways, turned.turn.as_slice())?;
+    compose_seen(alloc, heads.as_slice(), turned.met.as_slice(), met)?;
+    let next = compose(alloc, heads.as_slice(), turned.leave.as_slice())?;
+    arrive(alloc, aim, end, turned.number, next, met)
 }
 
 #[cycle(search)]
@@ -345,18 +443,7 @@ fn search_while(
         body.now)) ways j j met.old met.new result }
 {
     let turned = search_turn(alloc, aim, rows, body, at, number)?;
-    let heads = close(alloc, ways.as_slice(), turned.turn.as_slice())?;
-    compose_seen(alloc, heads.as_slice(), turned.met.as_slice(), met)?;
-    let next = compose(alloc, heads.as_slice(), turned.leave.as_slice())?;
-    let here = JoinName {
-        is_head: false,
-        number: turned.number,
-    };
-    see_join(alloc, aim, here, body.end, next.as_slice(), met)?;
-    Ok(Went {
-        next,
-        number: following(turned.number, 1)?,
-    })
+    leave_loop(alloc, aim, body.end, &turned, ways.as_slice(), met)
 }
 
 #[cycle(search)]
@@ -375,18 +462,18 @@ fn search_switch(
     ensures { SearchesForm aim at number (switch (rows_view rows.now) (arms_view arms.now) end) ways
         jumps.old jumps.new met.old met.new result }
 {
-    let passed = pass(alloc, aim, at, rows, ways, met)?;
-    let inside = following(number, rows.len())?;
-    let went = search_arms(alloc, aim, arms, at, inside, passed.as_slice(), jumps, met)?;
-    let here = JoinName {
-        is_head: false,
-        number: went.number,
-    };
-    see_join(alloc, aim, here, end, went.next.as_slice(), met)?;
-    Ok(Went {
-        next: went.next,
-        number: following(went.number, 1)?,
-    })
+    let passed = pass_rows(alloc, aim, rows, at, number, ways, met)?;
+    let went = search_arms(
+        alloc,
+        aim,
+        arms,
+        at,
+        passed.number,
+        passed.next.as_slice(),
+        jumps,
+        met,
+    )?;
+    arrive(alloc, aim, end, went.number, went.next, met)
 }
 
 /// The position of an arm in a choice.
@@ -399,12 +486,31 @@ fn case_number(position: usize) -> Result<u8, RowError>
     }
 }
 
+/// Takes ways into the arm of this position, through its rows.
+fn enter_arm(
+    alloc: Global,
+    aim: Aim,
+    position: usize,
+    rows: &[Row],
+    at: u32,
+    number: usize,
+    ways: &[Way],
+    met: &mut Items<Seen>,
+) -> Result<Went, RowError>
+    ensures { EntersArm aim at number position (rows_view rows.now) ways.now met.old met.new
+        result }
+{
+    let case = case_number(position)?;
+    let picked = chosen(alloc, ways, at, Pick::Case(case))?;
+    pass_rows(alloc, aim, rows, at, number, picked, met)
+}
+
 /// The arm of this position.
 #[cycle(search)]
 fn search_arm(
     alloc: Global,
     aim: Aim,
-    position: u8,
+    position: usize,
     arm: &FlowArm,
     at: u32,
     number: usize,
@@ -415,10 +521,17 @@ fn search_arm(
     ensures { SearchesArm aim at number position (arm_view arm.now).0 (arm_view arm.now).1 ways.now
         jumps.old jumps.new met.old met.new result }
 {
-    let picked = chosen(alloc, ways, at, Pick::Case(position))?;
-    let passed = pass(alloc, aim, at, arm.rows.as_slice(), picked, met)?;
-    let inside = following(number, arm.rows.len())?;
-    search_block(alloc, aim, &arm.body, inside, passed, jumps, met)
+    let rows = arm.rows.as_slice();
+    let entered = enter_arm(alloc, aim, position, rows, at, number, ways, met)?;
+    search_block(
+        alloc,
+        aim,
+        &arm.body,
+        entered.number,
+        entered.next,
+        jumps,
+        met,
+    )
 }
 
 #[cycle(search)]
@@ -438,11 +551,10 @@ fn search_arms(
     let mut next = Items::new(alloc);
     let mut spot = number;
     for position in 0..arms.len() {
-        let case = case_number(position)?;
         let end = search_arm(
             alloc,
             aim,
-            case,
+            position,
             &arms[position],
             at,
             spot,
@@ -471,15 +583,10 @@ fn search_focus(
     ensures { (j : JumpsSpec) → SearchesForm aim at number (focus (rows_view rows.now) (block_view
         body.now) (rows_view after.now)) ways j j met.old met.new result }
 {
-    let passed = pass(alloc, aim, at, rows, ways, met)?;
+    let passed = pass_rows(alloc, aim, rows, at, number, ways, met)?;
     let mut out = no_jumps(alloc);
-    let inside = following(number, rows.len())?;
-    let end = search_block(alloc, aim, body, inside, passed, &mut out, met)?;
-    let next = pass(alloc, aim, body.end, after, end.next, met)?;
-    Ok(Went {
-        next,
-        number: following(end.number, after.len())?,
-    })
+    let end = search_block(alloc, aim, body, passed.number, passed.next, &mut out, met)?;
+    pass_rows(alloc, aim, after, body.end, end.number, end.next, met)
 }
 
 #[cycle(search)]
@@ -496,12 +603,8 @@ pub fn search_block(
         met.new result }
 {
     let end = search_list(alloc, aim, block.stmts.as_slice(), number, ways, jumps, met)?;
-    let rows = gone_rows(alloc, block.bound.as_slice())?;
-    let next = pass(alloc, aim, block.end, rows.as_slice(), end.next, met)?;
-    Ok(Went {
-        next,
-        number: following(end.number, block.bound.len())?,
-    })
+    let left = block.bound.as_slice();
+    leave(alloc, aim, left, block.end, end.number, end.next, met)
 }
 
 #[cycle(search)]

@@ -14,7 +14,7 @@ use vlt_base::Items;
 use vlt_core::Choice;
 
 /// A join of a function, by its number among its rows and joins.
-#[derive(Clone, Copy, Debug)]
+#[derive(Clone, Copy)]
 pub struct JoinName {
     pub is_head: bool,
     pub number: usize,

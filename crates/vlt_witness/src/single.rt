@@ -11,7 +11,7 @@ use vlt_base::StateSet;
 use vlt_faults::{Ones, made};
 
 /// A status of an object in one state.
-#[derive(Clone, Copy, Debug, PartialEq, Eq)]
+#[derive(Clone, Copy)]
 pub enum Single {
     Absent,
     Full,

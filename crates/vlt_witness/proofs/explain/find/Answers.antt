@@ -15,13 +15,13 @@ loop-seen-preserved c =
     let lt : c.loop-seen.seen-index < length c.args.list.now = omega arith in
     record { none = none_more c.args.list.now c.loop-seen.seen-index c.seen-item.result (end_of_join c.args.join) lt c.seen-item.is (λ e. not_true (subst IsTrue (search rules) (c.is_same_join.ensures.1 e))) c.loop-seen.invariant.none }
 
-pub returns-then-is_same_join-clause-some : goal.returns-then-is_same_join-clause-some
-returns-then-is_same_join-clause-some c =
+pub returns-then-is_same_join : goal.returns-then-is_same_join
+returns-then-is_same_join c =
     let lt : c.loop-seen.seen-index < length c.args.list.now = omega arith in
     let path = rw c.as_slice.ensures at c.in_ok-path.ensures in
     found_at c.args.list.now c.loop-seen.seen-index c.seen-item.result (end_of_join c.args.join) (choices_of c.in_ok-path.path) lt c.seen-item.is (c.is_same_join.ensures.0 (search rules)) (ap choices_of path)
 
-pub returns-clause-none : goal.returns-clause-none
-returns-clause-none c =
+pub returns : goal.returns
+returns c =
     let past : length c.args.list.now ≤ c.loop-seen.seen-index = omega arith in
-    λ e. none_at_all c.args.list.now c.loop-seen.seen-index (end_of_join c.args.join) past c.loop-seen.invariant.none
+    none_at_all c.args.list.now c.loop-seen.seen-index (end_of_join c.args.join) past c.loop-seen.invariant.none

@@ -5,12 +5,12 @@ use Rattle.vlt_rows.specs.FlowView.{block_view}
 use Rattle.vlt_witness.proofs.Showing.{row_shown, row_unshown}
 use Rattle.vlt_witness.proofs.explain.row_paths.Goals as goal
 
-pub returns-in-None-clause-none : goal.returns-in-None-clause-none
-returns-in-None-clause-none c =
-    let none = rw c.as_slice.ensures at (c.in_ok-find.ensures.none c.in-None.is) in
-    λ e. row_unshown c.args.tok c.args.at c.args.wanted (block_view c.args.body.now) (In (many_of c.args.ones)) c.in_ok-list.list c.in_ok-list.ensures none
+pub returns-in-None : goal.returns-in-None
+returns-in-None c =
+    let none = rw (c.as_slice.ensures, c.in-None.is) at c.in_ok-find.ensures in
+    row_unshown c.args.tok c.args.at c.args.wanted (block_view c.args.body.now) (In (many_of c.args.ones)) c.in_ok-list.list c.in_ok-list.ensures none
 
-pub returns-clause-some : goal.returns-clause-some
-returns-clause-some c =
-    let some = rw (c.as_slice.ensures, c.in-Some.is) at c.in_ok-find.ensures.some in
+pub returns : goal.returns
+returns c =
+    let some = rw (c.as_slice.ensures, c.in-Some.is) at c.in_ok-find.ensures in
     row_shown c.args.tok c.args.at c.args.wanted (block_view c.args.body.now) (In (many_of c.args.ones)) c.in_ok-list.list (choices_of c.in-Some.first) c.in_ok-list.ensures some

@@ -1,6 +1,4 @@
-use Rattle.std.proofs.Common.{◌≡◌, ◌+◌, length, inl, arith}
-use Rattle.std.proofs.lemmas.List.{length-map}
-use Rattle.vlt_core.specs.HeldView.{row_of}
+use Rattle.std.proofs.Common.{inl, arith}
 use Rattle.vlt_rows.specs.FlowView.{rows_view}
 use Rattle.vlt_witness.specs.declared.search.Went.{Went}
 use Rattle.vlt_witness.proofs.Forms.{searched_return}
@@ -9,12 +7,9 @@ use Rattle.vlt_witness.proofs.search.search_return.Goals as goal
 
 pub returns : goal.returns
 returns c = λ j.
-    let long = length-map c.args.rows.now row_of in
-    let b : c.in_ok-following.field-0 ≡ c.args.number + length c.args.rows.now = c.in_ok-following.ensures in
-    let r : Went = record { next = c.new.result; number = c.in_ok-following.field-0 } in
-    searched_return c.args.aim c.args.at c.args.number (rows_view c.args.rows.now) c.args.ways c.in_ok-_ended._ended j c.args.met.now c.pass.new.met r c.in_ok-_ended.ensures.walks c.in_ok-_ended.ensures.sees c.new.ensures (omega (arith, b, long))
+    let p = c.in_ok-ended in
+    let r : Went = record { next = c.new.result; number = p.ended.number } in
+    searched_return c.args.aim c.args.at c.args.number (rows_view c.args.rows.now) c.args.ways p.ended.next j c.args.met.now c.pass_rows.new.met r p.ensures.walks p.ensures.sees c.new.ensures p.ensures.number
 
-pub returns-in_err-following : goal.returns-in_err-following
-returns-in_err-following c = λ j.
-    let long = length-map c.args.rows.now row_of in
-    passed_on _ _ _ c.from_residual-in_err-following.ensures.1 c.in_err-following.ensures (λ h. inl (omega (arith, h, long)))
+pub returns-in_err-ended : goal.returns-in_err-ended
+returns-in_err-ended c = λ j. passed_on _ _ _ c.from_residual.ensures.1 c.in_err-ended.ensures (λ h. inl (omega (arith, h)))

@@ -5,9 +5,14 @@ use Rattle.vlt_witness.specs.declared.ways.Way.{Way}
 use Rattle.vlt_witness.specs.Ways.{On, IsWay, nothing_found}
 use Rattle.vlt_witness.specs.Search.{Leads, CanLead, Takes}
 use Rattle.vlt_witness.proofs.Algebra.{walks_joined}
-use Rattle.vlt_witness.proofs.Lists.{spreads_more}
+use Rattle.vlt_witness.proofs.Lists.{spreads_first, spreads_more}
 use Rattle.vlt_witness.proofs.Steps.{way_takes}
 use Rattle.vlt_witness.proofs.ways.chosen.Goals as goal
+
+pub loop-way-init : goal.loop-way-init
+loop-way-init c =
+    let k = w.choice c.args.at (pick_of c.args.pick) in
+    rw c.new-list.ensures (spreads_first IsWay (Leads (Takes k)) (CanLead (Takes k)) nothing_found)
 
 pub loop-way-preserved : goal.loop-way-preserved
 loop-way-preserved c =
