@@ -1,17 +1,18 @@
 //! Expressions, whose operands stand before their operator.
 
-ghost use Rattle.std.specs.Prelude.{◌≡◌, ◌≤◌, ◌==◌, pos, map, option_map, IfSome, IfOk, [], ◌∷◌, Some, None};
+ghost use Rattle.std.specs.Prelude.{◌≡◌, ◌≤◌, ◌==◌, suc, max, nat_le, true, false, pos, map, option_map, option_and_then, IfSome, IfOk, MatchOption, [], ◌∷◌, Some, None};
 ghost use Rattle.serde_json.specs.View.{view};
 ghost use Rattle.vlt_core.specs.Core as core;
 ghost use Rattle.vlt_core.specs.View.{expr_of};
 ghost use Rattle.cert_rows.specs.Parts.{single, pair};
 ghost use Rattle.cert_rows.specs.Values.{id, flag};
 ghost use Rattle.cert_rows.specs.Expressions as s;
-ghost use Rattle.cert_rows.specs.Expressions.{depth, all_ops, op_at, number_fields};
-ghost use Rattle.cert_read_rows.specs.Stacks.{stack_of};
+ghost use Rattle.cert_rows.specs.Expressions.{depth as depth_of, all_ops, op_at, number_fields};
+ghost use Rattle.cert_read_rows.specs.Stacks.{stack_of, stack_of_last_tag};
 
+use crate::ids::{one_id, two_ids};
 use crate::ready::Ready;
-use cert_read_parts::{array, flag, id, number, number_u8, one, text, two};
+use cert_read_parts::{array, flag, number, number_u8, one, text};
 use serde_json::Value;
 use std::alloc::{AllocError, Global};
 use vlt_base::{Boxed, Items, VarId};
@@ -44,10 +45,10 @@ fn op_at(n: u8) -> Op
     }
 }
 
-fn op(v: &Value) -> Option<Op>
-    ensures { result ≡ s.op.of_data (view v.now) }
+fn operator(items: &[Value]) -> Option<Op>
+    ensures { result ≡ (single s.op).of_items (map view items.now) }
 {
-    let n = number_u8(v, 17)?;
+    let n = number_u8(one(items)?, 17)?;
     Some(op_at(n))
 }
 
@@ -55,6 +56,31 @@ fn is_prefix(op: Op) -> bool
     ensures { result ≡ s.is_prefix op }
 {
     row(op).arity == 1
+}
+
+/// The expression on top of the stack, taken off it.
+fn take_last(stack: &mut Items<Ready>) -> Option<Ready>
+    ensures { MatchOption result
+        (stack_of stack.old ≡ [])
+        (λ a. stack_of stack.old ≡ expr_of a.e ∷ stack_of stack.new) }
+{
+    stack.pop()
+}
+
+/// An expression of this depth goes on the stack.
+fn with_expr(
+    alloc: Global,
+    e: Expr,
+    depth: u8,
+    stack: Items<Ready>,
+) -> Result<Items<Ready>, AllocError>
+    requires { depth ≡ depth_of (expr_of e) }
+    ensures { IfOk result (λ r. stack_of r ≡ expr_of e ∷ stack_of stack) }
+{
+    let mut stack = stack;
+    let e = Boxed::new(alloc, e)?;
+    stack.push(Ready { e, depth })?;
+    Ok(stack)
 }
 
 fn with_prefix(
@@ -65,16 +91,24 @@ fn with_prefix(
     ensures { IfOk result (λ r. option_map stack_of r ≡ s.with_prefix op (stack_of stack)) }
 {
     let mut stack = stack;
-    let Some(a) = stack.pop() else {
+    let Some(a) = take_last(&mut stack) else {
         return Ok(None);
     };
     if a.depth >= 64 {
         return Ok(None);
     }
     let depth = a.depth + 1;
-    let e = Boxed::new(alloc, Expr::Un(op, a.e))?;
-    stack.push(Ready { e, depth })?;
-    Ok(Some(stack))
+    Ok(Some(with_expr(alloc, Expr::Un(op, a.e), depth, stack)?))
+}
+
+/// The depth of an operator over operands of these depths, unless that is too deep.
+fn depth_over(a: u8, b: u8) -> Option<u8>
+    ensures { MatchOption result
+        (nat_le (suc (max a b)) 64 ≡ false)
+        (λ d. (nat_le d 64 ≡ true) × (d ≡ suc (max a b))) }
+{
+    let most = if a < b { b } else { a };
+    if most < 64 { Some(most + 1) } else { None }
 }
 
 fn with_infix(
@@ -85,23 +119,16 @@ fn with_infix(
     ensures { IfOk result (λ r. option_map stack_of r ≡ s.with_infix op (stack_of stack)) }
 {
     let mut stack = stack;
-    let Some(b) = stack.pop() else {
+    let Some(b) = take_last(&mut stack) else {
         return Ok(None);
     };
-    let Some(a) = stack.pop() else {
+    let Some(a) = take_last(&mut stack) else {
         return Ok(None);
     };
-    if a.depth >= 64 || b.depth >= 64 {
+    let Some(depth) = depth_over(a.depth, b.depth) else {
         return Ok(None);
-    }
-    let depth = if a.depth < b.depth {
-        b.depth + 1
-    } else {
-        a.depth + 1
     };
-    let e = Boxed::new(alloc, Expr::Bin(op, a.e, b.e))?;
-    stack.push(Ready { e, depth })?;
-    Ok(Some(stack))
+    Ok(Some(with_expr(alloc, Expr::Bin(op, a.e, b.e), depth, stack)?))
 }
 
 fn with_operator(
@@ -124,23 +151,20 @@ fn with_leaf(
     leaf: Option<Expr>,
     stack: Items<Ready>,
 ) -> Result<Option<Items<Ready>>, AllocError>
-    requires { IfSome leaf (λ e. depth (expr_of e) ≡ 1) }
+    requires { IfSome leaf (λ e. depth_of (expr_of e) ≡ 1) }
     ensures { IfOk result (λ r. option_map stack_of r
         ≡ option_map (λ e. expr_of e ∷ stack_of stack) leaf) }
 {
-    let Some(e) = leaf else {
-        return Ok(None);
-    };
-    let mut stack = stack;
-    let e = Boxed::new(alloc, e)?;
-    stack.push(Ready { e, depth: 1 })?;
-    Ok(Some(stack))
+    match leaf {
+        Some(e) => Ok(Some(with_expr(alloc, e, 1, stack)?)),
+        None => Ok(None),
+    }
 }
 
 fn number_leaf(items: &[Value]) -> Option<Expr>
     ensures value { option_map expr_of result
         ≡ option_map (λ n. core.number (pos n)) (number_fields.of_items (map view items.now)) }
-    ensures leaf { IfSome result (λ e. depth (expr_of e) ≡ 1) }
+    ensures leaf { IfSome result (λ e. depth_of (expr_of e) ≡ 1) }
 {
     let n = number(one(items)?, 9223372036854775807)?;
     Some(Expr::Number(n as i64))
@@ -149,7 +173,7 @@ fn number_leaf(items: &[Value]) -> Option<Expr>
 fn bool_leaf(items: &[Value]) -> Option<Expr>
     ensures value { option_map expr_of result
         ≡ option_map core.truth ((single flag).of_items (map view items.now)) }
-    ensures leaf { IfSome result (λ e. depth (expr_of e) ≡ 1) }
+    ensures leaf { IfSome result (λ e. depth_of (expr_of e) ≡ 1) }
 {
     let b = flag(one(items)?)?;
     Some(Expr::Bool(b))
@@ -158,27 +182,52 @@ fn bool_leaf(items: &[Value]) -> Option<Expr>
 fn var_leaf(items: &[Value]) -> Option<Expr>
     ensures value { option_map expr_of result
         ≡ option_map core.var ((single id).of_items (map view items.now)) }
-    ensures leaf { IfSome result (λ e. depth (expr_of e) ≡ 1) }
+    ensures leaf { IfSome result (λ e. depth_of (expr_of e) ≡ 1) }
 {
-    let v = id(one(items)?)?;
+    let v = one_id(items)?;
     Some(Expr::Var(VarId(v)))
 }
 
 fn field_leaf(items: &[Value]) -> Option<Expr>
     ensures value { option_map expr_of result
         ≡ option_map (λ x. core.field x.0 x.1) ((pair id id).of_items (map view items.now)) }
-    ensures leaf { IfSome result (λ e. depth (expr_of e) ≡ 1) }
+    ensures leaf { IfSome result (λ e. depth_of (expr_of e) ≡ 1) }
 {
-    let (x, i) = two(items)?;
-    let x = id(x)?;
-    let i = id(i)?;
+    let (x, i) = two_ids(items)?;
     Some(Expr::Field(VarId(x), i))
 }
 
-fn operator(items: &[Value]) -> Option<Op>
-    ensures { result ≡ (single s.op).of_items (map view items.now) }
+/// The operator that is read goes on the stack, over its operands.
+fn with_read_operator(
+    alloc: Global,
+    stack: Items<Ready>,
+    items: &[Value],
+) -> Result<Option<Items<Ready>>, AllocError>
+    ensures { IfOk result (λ r. option_map stack_of r ≡ option_and_then
+        (s.with_operator (stack_of stack)) ((single s.op).of_items (map view items.now))) }
 {
-    op(one(items)?)
+    match operator(items) {
+        Some(op) => with_operator(alloc, op, stack),
+        None => Ok(None),
+    }
+}
+
+fn stack_of_last_tag(
+    alloc: Global,
+    tag: &str,
+    stack: Items<Ready>,
+    items: &[Value],
+) -> Result<Option<Items<Ready>>, AllocError>
+    ensures { IfOk result (λ r. option_map stack_of r
+        ≡ stack_of_last_tag (stack_of stack) tag.now (map view items.now)) }
+{
+    if tag == "f" {
+        return with_leaf(alloc, field_leaf(items), stack);
+    }
+    if tag == "o" {
+        return with_read_operator(alloc, stack, items);
+    }
+    Ok(None)
 }
 
 fn stack_of_tag(
@@ -199,16 +248,7 @@ fn stack_of_tag(
     if tag == "v" {
         return with_leaf(alloc, var_leaf(items), stack);
     }
-    if tag == "f" {
-        return with_leaf(alloc, field_leaf(items), stack);
-    }
-    if tag == "o" {
-        return match operator(items) {
-            Some(op) => with_operator(alloc, op, stack),
-            None => Ok(None),
-        };
-    }
-    Ok(None)
+    stack_of_last_tag(alloc, tag, stack, items)
 }
 
 fn stack_after(

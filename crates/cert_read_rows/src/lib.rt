@@ -6,6 +6,7 @@
 mod blocks;
 mod exprs;
 mod heads;
+mod ids;
 mod maps;
 mod operands;
 mod plain;

@@ -10,6 +10,7 @@ ghost use Rattle.cert_rows.specs.Expressions as s;
 ghost use Rattle.cert_rows.specs.Expressions.{operand_of_tag};
 
 use crate::exprs::expr;
+use crate::ids::one_id;
 use cert_read_parts::{array, id, mask, number, one, text, two};
 use serde_json::Value;
 use std::alloc::{AllocError, Global};
@@ -33,7 +34,7 @@ fn move_operand(items: &[Value]) -> Option<Operand>
     ensures { option_map operand_of result
         ≡ option_map core.move ((single id).of_items (map view items.now)) }
 {
-    let v = id(one(items)?)?;
+    let v = one_id(items)?;
     Some(Operand::Move(VarId(v)))
 }
 

@@ -7,6 +7,7 @@ ghost use Rattle.cert_rows.specs.Rows.{simple, call, return, jump, set_stmt, inp
 ghost use Rattle.cert_read_rows.specs.Statements.{plain_of, way_of_tag, owner_of_tag, value_of_tag, object_of_tag, plain_of_tag};
 
 use crate::exprs::expr;
+use crate::ids::{one_id, three_ids, two_ids};
 use crate::operands::{operand, operand_or_none, operands};
 use cert_read_parts::{
     flag, four, id, key_list, number_u8, one, three, two, var_list, var_or_none,
@@ -138,31 +139,21 @@ fn become_row(alloc: Global, items: &[Value]) -> Result<Option<PlainRow>, AllocE
     Ok(Some(PlainRow::Become(VarId(x), state)))
 }
 
-fn release_row(alloc: Global, items: &[Value]) -> Result<Option<PlainRow>, AllocError>
-    ensures { IfOk result (λ r. option_map plain_of r
+fn release_row(items: &[Value]) -> Option<PlainRow>
+    ensures { option_map plain_of result
         ≡ option_map (λ x. simple (core.release x))
-        (release_stmt.of_items (map view items.now))) }
+        (release_stmt.of_items (map view items.now)) }
 {
-    let Some(x) = one(items) else {
-        return Ok(None);
-    };
-    let Some(x) = id(x) else {
-        return Ok(None);
-    };
-    Ok(Some(PlainRow::Release(VarId(x))))
+    let x = one_id(items)?;
+    Some(PlainRow::Release(VarId(x)))
 }
 
-fn drop_row(alloc: Global, items: &[Value]) -> Result<Option<PlainRow>, AllocError>
-    ensures { IfOk result (λ r. option_map plain_of r
-        ≡ option_map (λ v. simple (core.drop v)) (drop_stmt.of_items (map view items.now))) }
+fn drop_row(items: &[Value]) -> Option<PlainRow>
+    ensures { option_map plain_of result
+        ≡ option_map (λ v. simple (core.drop v)) (drop_stmt.of_items (map view items.now)) }
 {
-    let Some(v) = one(items) else {
-        return Ok(None);
-    };
-    let Some(v) = id(v) else {
-        return Ok(None);
-    };
-    Ok(Some(PlainRow::Drop(VarId(v))))
+    let v = one_id(items)?;
+    Some(PlainRow::Drop(VarId(v)))
 }
 
 fn own_row(alloc: Global, items: &[Value]) -> Result<Option<PlainRow>, AllocError>
@@ -181,21 +172,13 @@ fn own_row(alloc: Global, items: &[Value]) -> Result<Option<PlainRow>, AllocErro
     Ok(Some(PlainRow::Own(VarId(v), value)))
 }
 
-fn unpack_row(alloc: Global, items: &[Value]) -> Result<Option<PlainRow>, AllocError>
-    ensures { IfOk result (λ r. option_map plain_of r
+fn unpack_row(items: &[Value]) -> Option<PlainRow>
+    ensures { option_map plain_of result
         ≡ option_map (λ x. simple (core.unpack x.0 x.1))
-        (unpack_stmt.of_items (map view items.now))) }
+        (unpack_stmt.of_items (map view items.now)) }
 {
-    let Some((x, v)) = two(items) else {
-        return Ok(None);
-    };
-    let Some(x) = id(x) else {
-        return Ok(None);
-    };
-    let Some(v) = id(v) else {
-        return Ok(None);
-    };
-    Ok(Some(PlainRow::Unpack(VarId(x), VarId(v))))
+    let (x, v) = two_ids(items)?;
+    Some(PlainRow::Unpack(VarId(x), VarId(v)))
 }
 
 fn build_row(alloc: Global, items: &[Value]) -> Result<Option<PlainRow>, AllocError>
@@ -240,24 +223,13 @@ fn call_row(alloc: Global, items: &[Value]) -> Result<Option<PlainRow>, AllocErr
     Ok(Some(PlainRow::Call(FnId(f), target, keys, args)))
 }
 
-fn swap_row(alloc: Global, items: &[Value]) -> Result<Option<PlainRow>, AllocError>
-    ensures { IfOk result (λ r. option_map plain_of r
+fn swap_row(items: &[Value]) -> Option<PlainRow>
+    ensures { option_map plain_of result
         ≡ option_map (λ x. simple (core.swap x.0 x.1 x.2))
-        (swap_stmt.of_items (map view items.now))) }
+        (swap_stmt.of_items (map view items.now)) }
 {
-    let Some((x, i, v)) = three(items) else {
-        return Ok(None);
-    };
-    let Some(x) = id(x) else {
-        return Ok(None);
-    };
-    let Some(i) = id(i) else {
-        return Ok(None);
-    };
-    let Some(v) = id(v) else {
-        return Ok(None);
-    };
-    Ok(Some(PlainRow::Swap(VarId(x), i, VarId(v))))
+    let (x, i, v) = three_ids(items)?;
+    Some(PlainRow::Swap(VarId(x), i, VarId(v)))
 }
 
 fn open_row(alloc: Global, items: &[Value]) -> Result<Option<PlainRow>, AllocError>
@@ -277,24 +249,13 @@ fn open_row(alloc: Global, items: &[Value]) -> Result<Option<PlainRow>, AllocErr
     Ok(Some(PlainRow::Open(VarId(x), into)))
 }
 
-fn adopt_row(alloc: Global, items: &[Value]) -> Result<Option<PlainRow>, AllocError>
-    ensures { IfOk result (λ r. option_map plain_of r
+fn adopt_row(items: &[Value]) -> Option<PlainRow>
+    ensures { option_map plain_of result
         ≡ option_map (λ x. simple (core.adopt x.0 x.1 x.2))
-        (adopt_stmt.of_items (map view items.now))) }
+        (adopt_stmt.of_items (map view items.now)) }
 {
-    let Some((y, x, r)) = three(items) else {
-        return Ok(None);
-    };
-    let Some(y) = id(y) else {
-        return Ok(None);
-    };
-    let Some(x) = id(x) else {
-        return Ok(None);
-    };
-    let Some(r) = id(r) else {
-        return Ok(None);
-    };
-    Ok(Some(PlainRow::Adopt(VarId(y), VarId(x), VarId(r))))
+    let (y, x, r) = three_ids(items)?;
+    Some(PlainRow::Adopt(VarId(y), VarId(x), VarId(r)))
 }
 
 fn return_row(alloc: Global, items: &[Value]) -> Result<Option<PlainRow>, AllocError>
@@ -344,13 +305,13 @@ fn owner_row(alloc: Global, tag: &str, items: &[Value]) -> Result<Option<PlainRo
         ≡ owner_of_tag tag.now (map view items.now)) }
 {
     if tag == "swap" {
-        return swap_row(alloc, items);
+        return Ok(swap_row(items));
     }
     if tag == "open" {
         return open_row(alloc, items);
     }
     if tag == "adopt" {
-        return adopt_row(alloc, items);
+        return Ok(adopt_row(items));
     }
     way_row(alloc, tag, items)
 }
@@ -363,7 +324,7 @@ fn value_row(alloc: Global, tag: &str, items: &[Value]) -> Result<Option<PlainRo
         return own_row(alloc, items);
     }
     if tag == "unpack" {
-        return unpack_row(alloc, items);
+        return Ok(unpack_row(items));
     }
     if tag == "build" {
         return build_row(alloc, items);
@@ -382,10 +343,10 @@ fn object_row(alloc: Global, tag: &str, items: &[Value]) -> Result<Option<PlainR
         return become_row(alloc, items);
     }
     if tag == "release" {
-        return release_row(alloc, items);
+        return Ok(release_row(items));
     }
     if tag == "drop" {
-        return drop_row(alloc, items);
+        return Ok(drop_row(items));
     }
     value_row(alloc, tag, items)
 }

@@ -32,7 +32,7 @@ abbrev pub GivesPaths : (List Choice → Option (List Choice) → Type 0) → Op
 GivesPaths P (Some x) = P (choices_of x.first) (option_map choices_of x.second)
 GivesPaths P None = (first : List Choice) (second : Option (List Choice)) → P first second → ⊥
 
--- ----
+-- ---- which paths show a fault
 
 -- two to one join
 abbrev pub IsPair : Finds End → Finds End → List Choice → Option (List Choice) → Type 0
