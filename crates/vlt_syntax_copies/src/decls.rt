@@ -1,7 +1,8 @@
 //! Declarations.
 
-ghost use Rattle.std.specs.Prelude.{◌≡◌, IfOk, map};
-ghost use Rattle.vlt_syntax.specs.View.{key_states_of, ty_of, set_state_of, header_key_of, field_of, case_of, decl_of};
+ghost use Rattle.std.specs.Prelude.{◌≡◌, IfOk, map, option_map};
+ghost use Rattle.vlt_syntax.specs.Tree as t;
+ghost use Rattle.vlt_syntax.specs.View.{name_of, states_of, key_states_of, ty_of, block_of, set_state_of, header_key_of, field_of, case_of, head_of, decl_of};
 ghost use Rattle.vlt_syntax_copies.specs.Mapped as m;
 ghost use Rattle.vlt_syntax_copies.specs.Shifted as s;
 
@@ -10,8 +11,10 @@ use crate::names::{shifted_name, shifted_name_if, shifted_span};
 use crate::statements::shifted_block;
 use crate::types::{shifted_key_states, shifted_states_if, shifted_ty};
 use std::alloc::{AllocError, Global};
-use vlt_base::Items;
-use vlt_syntax::{Case, Decl, Field, HeaderKey, KeyStates, SetState, Ty};
+use vlt_base::{Items, Span};
+use vlt_syntax::{
+    Block, Case, Decl, Field, Head, HeaderKey, KeyStates, Name, SetState, States, Ty,
+};
 
 fn shifted_header_key(alloc: Global, param: &HeaderKey, by: u32) -> Result<HeaderKey, AllocError>
     ensures { IfOk result (λ p. header_key_of p
@@ -128,6 +131,109 @@ fn shifted_cases(alloc: Global, cases: &[Case], by: u32) -> Result<Items<Case>, 
     Ok(made)
 }
 
+fn shifted_state_set(
+    alloc: Global,
+    name: &Name,
+    states: &[SetState],
+    at: Span,
+    by: u32,
+) -> Result<Decl, AllocError>
+    ensures { IfOk result (λ d. decl_of d ≡ s.shifted by
+        (t.stateset (name_of name.now) (map set_state_of states.now) at)) }
+{
+    Ok(Decl::StateSet {
+        name: shifted_name(alloc, name, by)?,
+        states: shifted_set_states(alloc, states, by)?,
+        at: shifted_span(at, by),
+    })
+}
+
+fn shifted_abstract(
+    alloc: Global,
+    name: &Name,
+    states: &Option<Name>,
+    at: Span,
+    by: u32,
+) -> Result<Decl, AllocError>
+    ensures { IfOk result (λ d. decl_of d ≡ s.shifted by
+        (t.abstract (name_of name.now) (option_map name_of states.now) at)) }
+{
+    Ok(Decl::Abstract {
+        name: shifted_name(alloc, name, by)?,
+        states: shifted_name_if(alloc, states, by)?,
+        at: shifted_span(at, by),
+    })
+}
+
+fn shifted_struct(
+    alloc: Global,
+    name: &Name,
+    params: &[HeaderKey],
+    states: &Option<Name>,
+    fields: &[Field],
+    release: &Option<States>,
+    at: Span,
+    by: u32,
+) -> Result<Decl, AllocError>
+    ensures { IfOk result (λ d. decl_of d ≡ s.shifted by
+        (t.struct (name_of name.now) (map header_key_of params.now) (option_map name_of states.now)
+        (map field_of fields.now) (option_map states_of release.now) at)) }
+{
+    Ok(Decl::Struct {
+        name: shifted_name(alloc, name, by)?,
+        params: shifted_header(alloc, params, by)?,
+        states: shifted_name_if(alloc, states, by)?,
+        fields: shifted_fields(alloc, fields, by)?,
+        release: shifted_states_if(alloc, release, by)?,
+        at: shifted_span(at, by),
+    })
+}
+
+fn shifted_variant(
+    alloc: Global,
+    name: &Name,
+    params: &[HeaderKey],
+    cases: &[Case],
+    at: Span,
+    by: u32,
+) -> Result<Decl, AllocError>
+    ensures { IfOk result (λ d. decl_of d ≡ s.shifted by
+        (t.variant (name_of name.now) (map header_key_of params.now) (map case_of cases.now) at)) }
+{
+    Ok(Decl::Variant {
+        name: shifted_name(alloc, name, by)?,
+        params: shifted_header(alloc, params, by)?,
+        cases: shifted_cases(alloc, cases, by)?,
+        at: shifted_span(at, by),
+    })
+}
+
+fn shifted_extern(alloc: Global, head: &Head, at: Span, by: u32) -> Result<Decl, AllocError>
+    ensures { IfOk result (λ d. decl_of d ≡ s.shifted by (t.extern (head_of head.now) at)) }
+{
+    Ok(Decl::Extern {
+        head: shifted_head(alloc, head, by)?,
+        at: shifted_span(at, by),
+    })
+}
+
+fn shifted_function(
+    alloc: Global,
+    head: &Head,
+    body: &Block,
+    at: Span,
+    by: u32,
+) -> Result<Decl, AllocError>
+    ensures { IfOk result (λ d. decl_of d ≡ s.shifted by
+        (t.function (head_of head.now) (block_of body.now) at)) }
+{
+    Ok(Decl::Function {
+        body: shifted_block(alloc, body, by)?,
+        head: shifted_head(alloc, head, by)?,
+        at: shifted_span(at, by),
+    })
+}
+
 /// The declaration with all places so much further on. A place that 32 bits would not hold stays where it is.
 ///
 /// # Errors
@@ -137,16 +243,10 @@ pub fn shifted_decl(alloc: Global, decl: &Decl, by: u32) -> Result<Decl, AllocEr
     ensures { IfOk result (λ d. decl_of d ≡ s.shifted by (decl_of decl.now)) }
 {
     match decl {
-        Decl::StateSet { name, states, at } => Ok(Decl::StateSet {
-            name: shifted_name(alloc, name, by)?,
-            states: shifted_set_states(alloc, states.as_slice(), by)?,
-            at: shifted_span(*at, by),
-        }),
-        Decl::Abstract { name, states, at } => Ok(Decl::Abstract {
-            name: shifted_name(alloc, name, by)?,
-            states: shifted_name_if(alloc, states, by)?,
-            at: shifted_span(*at, by),
-        }),
+        Decl::StateSet { name, states, at } => {
+            shifted_state_set(alloc, name, states.as_slice(), *at, by)
+        }
+        Decl::Abstract { name, states, at } => shifted_abstract(alloc, name, states, *at, by),
         Decl::Struct {
             name,
             params,
@@ -154,33 +254,23 @@ pub fn shifted_decl(alloc: Global, decl: &Decl, by: u32) -> Result<Decl, AllocEr
             fields,
             release,
             at,
-        } => Ok(Decl::Struct {
-            name: shifted_name(alloc, name, by)?,
-            params: shifted_header(alloc, params.as_slice(), by)?,
-            states: shifted_name_if(alloc, states, by)?,
-            fields: shifted_fields(alloc, fields.as_slice(), by)?,
-            release: shifted_states_if(alloc, release, by)?,
-            at: shifted_span(*at, by),
-        }),
+        } => shifted_struct(
+            alloc,
+            name,
+            params.as_slice(),
+            states,
+            fields.as_slice(),
+            release,
+            *at,
+            by,
+        ),
         Decl::Variant {
             name,
             params,
             cases,
             at,
-        } => Ok(Decl::Variant {
-            name: shifted_name(alloc, name, by)?,
-            params: shifted_header(alloc, params.as_slice(), by)?,
-            cases: shifted_cases(alloc, cases.as_slice(), by)?,
-            at: shifted_span(*at, by),
-        }),
-        Decl::Extern { head, at } => Ok(Decl::Extern {
-            head: shifted_head(alloc, head, by)?,
-            at: shifted_span(*at, by),
-        }),
-        Decl::Function { head, body, at } => Ok(Decl::Function {
-            body: shifted_block(alloc, body, by)?,
-            head: shifted_head(alloc, head, by)?,
-            at: shifted_span(*at, by),
-        }),
+        } => shifted_variant(alloc, name, params.as_slice(), cases.as_slice(), *at, by),
+        Decl::Extern { head, at } => shifted_extern(alloc, head, *at, by),
+        Decl::Function { head, body, at } => shifted_function(alloc, head, body, *at, by),
     }
 }

@@ -1,7 +1,8 @@
 //! Heads of functions.
 
 ghost use Rattle.std.specs.Prelude.{◌≡◌, IfOk, map, option_map};
-ghost use Rattle.vlt_syntax.specs.View.{entry_of, result_type_of, parameter_of, head_of};
+ghost use Rattle.vlt_syntax.specs.Tree as t;
+ghost use Rattle.vlt_syntax.specs.View.{name_of, states_of, entry_of, result_type_of, parameter_of, head_of};
 ghost use Rattle.vlt_syntax_copies.specs.Mapped as m;
 ghost use Rattle.vlt_syntax_copies.specs.Shifted as s;
 
@@ -9,7 +10,41 @@ use crate::names::{shifted_name, shifted_span};
 use crate::types::{shifted_key_states, shifted_states, shifted_ty};
 use std::alloc::{AllocError, Global};
 use vlt_base::Items;
-use vlt_syntax::{Entry, Head, Parameter, ResultType};
+use vlt_syntax::{Entry, Head, Name, Parameter, ResultType, States};
+
+fn shifted_changed(
+    alloc: Global,
+    key: &Name,
+    before: &States,
+    after: &States,
+    by: u32,
+) -> Result<Entry, AllocError>
+    ensures { IfOk result (λ e. entry_of e ≡ m.mapped_entry (s.shifted_span by)
+        (t.changed (name_of key.now) (states_of before.now) (states_of after.now))) }
+{
+    Ok(Entry::Changed {
+        key: shifted_name(alloc, key, by)?,
+        before: shifted_states(alloc, before, by)?,
+        after: shifted_states(alloc, after, by)?,
+    })
+}
+
+fn shifted_bound(
+    alloc: Global,
+    key: &Name,
+    variable: &Name,
+    state: &Name,
+    by: u32,
+) -> Result<Entry, AllocError>
+    ensures { IfOk result (λ e. entry_of e ≡ m.mapped_entry (s.shifted_span by)
+        (t.bound (name_of key.now) (name_of variable.now) (name_of state.now))) }
+{
+    Ok(Entry::Bound {
+        key: shifted_name(alloc, key, by)?,
+        variable: shifted_name(alloc, variable, by)?,
+        state: shifted_name(alloc, state, by)?,
+    })
+}
 
 fn shifted_entry(alloc: Global, entry: &Entry, by: u32) -> Result<Entry, AllocError>
     ensures { IfOk result (λ e. entry_of e
@@ -17,20 +52,12 @@ fn shifted_entry(alloc: Global, entry: &Entry, by: u32) -> Result<Entry, AllocEr
 {
     match entry {
         Entry::Held(key) => Ok(Entry::Held(shifted_key_states(alloc, key, by)?)),
-        Entry::Changed { key, before, after } => Ok(Entry::Changed {
-            key: shifted_name(alloc, key, by)?,
-            before: shifted_states(alloc, before, by)?,
-            after: shifted_states(alloc, after, by)?,
-        }),
+        Entry::Changed { key, before, after } => shifted_changed(alloc, key, before, after, by),
         Entry::Bound {
             key,
             variable,
             state,
-        } => Ok(Entry::Bound {
-            key: shifted_name(alloc, key, by)?,
-            variable: shifted_name(alloc, variable, by)?,
-            state: shifted_name(alloc, state, by)?,
-        }),
+        } => shifted_bound(alloc, key, variable, state, by),
         Entry::Taken(key, at) => Ok(Entry::Taken(
             shifted_key_states(alloc, key, by)?,
             shifted_span(*at, by),

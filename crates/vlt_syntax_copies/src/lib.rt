@@ -12,6 +12,7 @@ ghost use Rattle.vlt_syntax_copies.specs.Raised.{raised};
 ghost use Rattle.vlt_syntax_copies.specs.Shifted.{shifted};
 ghost use Rattle.vlt_syntax_copies.specs.Within.{AreWithin};
 
+mod blocks;
 mod decls;
 mod exprs;
 mod heads;

@@ -1,7 +1,8 @@
 //! Right sides.
 
-ghost use Rattle.std.specs.Prelude.{◌≡◌, IfOk, map};
-ghost use Rattle.vlt_syntax.specs.View.{build_of, call_of, init_of, right_of, returned_of};
+ghost use Rattle.std.specs.Prelude.{◌≡◌, IfOk, map, option_map};
+ghost use Rattle.vlt_syntax.specs.Tree as t;
+ghost use Rattle.vlt_syntax.specs.View.{name_of, named_of, build_of, call_of, init_of, right_of, returned_of};
 ghost use Rattle.vlt_syntax_copies.specs.Mapped as m;
 ghost use Rattle.vlt_syntax_copies.specs.Shifted as s;
 
@@ -9,8 +10,8 @@ use crate::exprs::{shifted_expr, shifted_exprs};
 use crate::names::{shifted_name, shifted_name_if, shifted_span};
 use crate::types::shifted_named;
 use std::alloc::{AllocError, Global};
-use vlt_base::Items;
-use vlt_syntax::{Build, Call, Init, Returned, Right};
+use vlt_base::{Items, Span};
+use vlt_syntax::{Build, Call, Init, Name, Named, Returned, Right};
 
 fn shifted_build(alloc: Global, build: &Build, by: u32) -> Result<Build, AllocError>
     ensures { IfOk result (λ b. build_of b
@@ -55,6 +56,42 @@ fn shifted_inits(alloc: Global, inits: &[Init], by: u32) -> Result<Items<Init>, 
     Ok(made)
 }
 
+fn shifted_new(
+    alloc: Global,
+    owner: &Option<Name>,
+    named: &Named,
+    fields: &[Init],
+    at: Span,
+    by: u32,
+) -> Result<Right, AllocError>
+    ensures { IfOk result (λ v. right_of v ≡ m.mapped_right (s.shifted_span by)
+        (t.make (option_map name_of owner.now) (named_of named.now) (map init_of fields.now) at)) }
+{
+    Ok(Right::New {
+        owner: shifted_name_if(alloc, owner, by)?,
+        named: shifted_named(alloc, named, by)?,
+        fields: shifted_inits(alloc, fields, by)?,
+        at: shifted_span(at, by),
+    })
+}
+
+fn shifted_adopt(
+    alloc: Global,
+    variable: &Name,
+    owner: &Name,
+    at: Span,
+    by: u32,
+) -> Result<Right, AllocError>
+    ensures { IfOk result (λ v. right_of v ≡ m.mapped_right (s.shifted_span by)
+        (t.adopt (name_of variable.now) (name_of owner.now) at)) }
+{
+    Ok(Right::Adopt {
+        variable: shifted_name(alloc, variable, by)?,
+        owner: shifted_name(alloc, owner, by)?,
+        at: shifted_span(at, by),
+    })
+}
+
 pub fn shifted_right(alloc: Global, right: &Right, by: u32) -> Result<Right, AllocError>
     ensures { IfOk result (λ v. right_of v
         ≡ m.mapped_right (s.shifted_span by) (right_of right.now)) }
@@ -70,21 +107,12 @@ pub fn shifted_right(alloc: Global, right: &Right, by: u32) -> Result<Right, All
             named,
             fields,
             at,
-        } => Ok(Right::New {
-            owner: shifted_name_if(alloc, owner, by)?,
-            named: shifted_named(alloc, named, by)?,
-            fields: shifted_inits(alloc, fields.as_slice(), by)?,
-            at: shifted_span(*at, by),
-        }),
+        } => shifted_new(alloc, owner, named, fields.as_slice(), *at, by),
         Right::Adopt {
             variable,
             owner,
             at,
-        } => Ok(Right::Adopt {
-            variable: shifted_name(alloc, variable, by)?,
-            owner: shifted_name(alloc, owner, by)?,
-            at: shifted_span(*at, by),
-        }),
+        } => shifted_adopt(alloc, variable, owner, *at, by),
     }
 }
 

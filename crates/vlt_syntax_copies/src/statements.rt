@@ -6,14 +6,16 @@ ghost use Rattle.vlt_syntax_copies.specs.Mapped as m;
 ghost use Rattle.vlt_syntax_copies.specs.Shifted as s;
 ghost use Rattle.vlt_syntax_copies.specs.Arms.{mapped_arm};
 
-use crate::exprs::shifted_expr;
-use crate::names::{shifted_name, shifted_names, shifted_span};
+use crate::blocks::{
+    chained, shifted_case_arm, shifted_choice, shifted_focus, shifted_switch, shifted_while,
+};
+use crate::names::shifted_span;
 use crate::simple::{
     shifted_assign, shifted_become, shifted_call_stmt, shifted_declare, shifted_open,
     shifted_print, shifted_put, shifted_release, shifted_return, shifted_swap,
 };
 use std::alloc::{AllocError, Global};
-use vlt_base::{Boxed, Items};
+use vlt_base::Items;
 use vlt_syntax::{Arm, Block, Else, If, Stmt};
 
 #[cycle(copy)]
@@ -55,19 +57,17 @@ fn shifted_stmt(alloc: Global, stmt: &Stmt, by: u32) -> Result<Stmt, AllocError>
             condition,
             body,
             at,
-        } => Ok(Stmt::While {
-            body: shifted_block(alloc, body, by)?,
-            condition: shifted_expr(alloc, condition, by)?,
-            at: shifted_span(*at, by),
-        }),
+        } => {
+            let body = shifted_block(alloc, body, by)?;
+            shifted_while(alloc, condition, body, *at, by)
+        }
         Stmt::Break(at) => Ok(Stmt::Break(shifted_span(*at, by))),
         Stmt::Continue(at) => Ok(Stmt::Continue(shifted_span(*at, by))),
         Stmt::Return(returned, at) => shifted_return(alloc, returned, *at, by),
-        Stmt::Switch { variable, arms, at } => Ok(Stmt::Switch {
-            variable: shifted_name(alloc, variable, by)?,
-            arms: shifted_arms(alloc, arms.as_slice(), by)?,
-            at: shifted_span(*at, by),
-        }),
+        Stmt::Switch { variable, arms, at } => {
+            let arms = shifted_arms(alloc, arms.as_slice(), by)?;
+            shifted_switch(alloc, variable, arms, *at, by)
+        }
         Stmt::Release(name, at) => shifted_release(alloc, name, *at, by),
         Stmt::Become {
             variable,
@@ -91,13 +91,10 @@ fn shifted_stmt(alloc: Global, stmt: &Stmt, by: u32) -> Result<Stmt, AllocError>
             alias,
             body,
             at,
-        } => Ok(Stmt::Focus {
-            variable: shifted_name(alloc, variable, by)?,
-            key: shifted_name(alloc, key, by)?,
-            alias: shifted_name(alloc, alias, by)?,
-            body: shifted_block(alloc, body, by)?,
-            at: shifted_span(*at, by),
-        }),
+        } => {
+            let body = shifted_block(alloc, body, by)?;
+            shifted_focus(alloc, variable, key, alias, body, *at, by)
+        }
     }
 }
 
@@ -117,12 +114,16 @@ pub fn shifted_block(alloc: Global, block: &Block, by: u32) -> Result<Block, All
 fn shifted_if(alloc: Global, choice: &If, by: u32) -> Result<If, AllocError>
     ensures { IfOk result (λ i. if_of i ≡ m.mapped_if (s.shifted_span by) (if_of choice.now)) }
 {
-    Ok(If {
-        then_block: shifted_block(alloc, &choice.then_block, by)?,
-        otherwise: shifted_else(alloc, &choice.otherwise, by)?,
-        condition: shifted_expr(alloc, &choice.condition, by)?,
-        at: shifted_span(choice.at, by),
-    })
+    let then_block = shifted_block(alloc, &choice.then_block, by)?;
+    let otherwise = shifted_else(alloc, &choice.otherwise, by)?;
+    shifted_choice(
+        alloc,
+        &choice.condition,
+        then_block,
+        otherwise,
+        choice.at,
+        by,
+    )
 }
 
 #[cycle(copy)]
@@ -133,10 +134,7 @@ fn shifted_else(alloc: Global, other: &Else, by: u32) -> Result<Else, AllocError
     match other {
         Else::Nothing => Ok(Else::Nothing),
         Else::Last(block) => Ok(Else::Last(shifted_block(alloc, block, by)?)),
-        Else::Chained(choice) => Ok(Else::Chained(Boxed::new(
-            alloc,
-            shifted_if(alloc, choice.get(), by)?,
-        )?)),
+        Else::Chained(choice) => chained(alloc, shifted_if(alloc, choice.get(), by)?),
     }
 }
 
@@ -156,10 +154,6 @@ fn shifted_arms(alloc: Global, arms: &[Arm], by: u32) -> Result<Items<Arm>, Allo
 fn shifted_arm(alloc: Global, arm: &Arm, by: u32) -> Result<Arm, AllocError>
     ensures { IfOk result (λ a. arm_of a ≡ mapped_arm (s.shifted_span by) (arm_of arm.now)) }
 {
-    Ok(Arm {
-        case: shifted_name(alloc, &arm.case, by)?,
-        variables: shifted_names(alloc, arm.variables.as_slice(), by)?,
-        body: shifted_block(alloc, &arm.body, by)?,
-        at: shifted_span(arm.at, by),
-    })
+    let body = shifted_block(alloc, &arm.body, by)?;
+    shifted_case_arm(alloc, &arm.case, arm.variables.as_slice(), body, arm.at, by)
 }
