@@ -1,5 +1,5 @@
 -- Arguments one by one.
-use Rattle.std.proofs.Common.{◌≡◌, List, [], ◌∷◌, ◌++◌, map, refl, sym, ap, ◌∙◌}
+use Rattle.std.proofs.Common.{◌≡◌, false, List, [], ◌∷◌, ◌++◌, map, refl, sym, ap, ◌∙◌}
 use Rattle.std.proofs.lemmas.List.{map-append}
 use Rattle.c_syntax.specs.declared.token.CSign.TheVariants as s
 use Rattle.c_syntax.specs.declared.program.CArg.{CArg}
@@ -8,7 +8,10 @@ use Rattle.c_syntax.specs.C.{Arg}
 use Rattle.c_syntax.specs.Tokens as t
 use Rattle.c_syntax.specs.Tokens.{Token}
 use Rattle.c_syntax.specs.Spelling.{arg_token, args_then, more_args_then}
-use Rattle.c_syntax.specs.Grammar.{HasNoText}
+use Rattle.c_syntax.specs.Grammar.{HasNoText, IsCall}
+use Rattle.c_syntax.specs.declared.program.CPrim.{CPrim}
+use Rattle.c_syntax.specs.declared.program.CPrim.TheVariants as prim
+use Rattle.c_automaton.specs.Automaton.{is_string_taker}
 use Rattle.c_syntax.specs.View.{arg_of}
 
 -- arguments with a comma before each
@@ -44,3 +47,7 @@ none_joined (c.text cs ∷ xs) y a b = absurd a
 
 pub none_more : (all before : List CArg) (y : CArg) → all ≡ before ++ y ∷ [] → HasNoText (map arg_of before) → HasNoText (arg_of y ∷ []) → HasNoText (map arg_of all)
 none_more all before y grown a b = rw (ap (map arg_of) grown ∙ map-append arg_of before (y ∷ [])) (none_joined (map arg_of before) (arg_of y) a b)
+
+pub primitive_is_call : (p : CPrim) (xs : List Arg) → (is_string_taker p ≡ false → HasNoText xs) → IsCall (c.primitive p xs)
+primitive_is_call prim.Call xs h = tt
+primitive_is_call p xs h = h refl

@@ -11,15 +11,15 @@ use Rattle.c_syntax.specs.Text.{IsTokensOf, before_mark}
 use Rattle.c_syntax.specs.Grammar.{language}
 use Rattle.c_automaton.specs.Refusals.{Refusal, unexpected_at, cut_short, over_limit}
 use Rattle.c_automaton.specs.Laws.{RefusesAsTheGrammar}
-use Rattle.c_automaton.specs.Automaton.{Symbol, Verdict, run, start, bodies, body, sign, type, head_rest, operand, value, args, cell_rest, is_string_taker}
+use Rattle.c_automaton.specs.Automaton.{Symbol, Verdict, run, start, bodies, body, sign, type, head_rest, operand, value, args, cell_rest, stmts, is_string_taker}
 use Rattle.c_automaton.specs.Ahead.{Begins, begins_sign, begins_word, functions_symbol, after_head_of, after_variable_of}
-use Rattle.c_automaton.proofs.Taking.{head_begins, body_begins, semicolon_functions, reference_assigned}
+use Rattle.c_automaton.proofs.Taking.{head_begins, body_begins, semicolon_functions, reference_assigned, variable_begins}
 use Rattle.c_lexer.specs.declared.token.Lexeme.{Lexeme}
 use Rattle.c_parser.specs.declared.unit.Body.{Body}
 use Rattle.c_parser.specs.declared.error.ParseError.{ParseError}
 use Rattle.c_parser.specs.declared.error.ParseError.TheVariants.{Unexpected, EndOfText, Limit, Memory}
 use Rattle.c_lexer.specs.View.{lexemes_of}
-use Rattle.c_parser.specs.Following.{ahead, told_of, Fails, Takes, TurnsWhere, before_bodies}
+use Rattle.c_parser.specs.Following.{ahead, told_of, Fails, Takes, Turns, TurnsWhere, before_bodies}
 use Rattle.c_parser.specs.Refusals.{IsRefusedAs}
 
 abbrev refused : Refusal → Verdict
@@ -38,12 +38,16 @@ pub takes_after : {A : Type 0} (before part : List Symbol) (ls : List Lexeme) (a
 takes_after before part ls at here (Ok x) same takes = λ s. same s ∙ takes s
 takes_after before part ls at here (Err e) same takes = λ s f told. same s ∙ takes s f told
 
+pub turns_where : {A : Type 0} (fits : List Symbol → Type 0) (before after : List Symbol) (next : A → ℕ) (ls : List Lexeme) (at : ℕ) (r : Result A ParseError)
+    → Turns before after next ls at r → TurnsWhere fits before after next ls at r
+turns_where fits before after next ls at (Ok x) turns = λ s fit. turns s
+turns_where fits before after next ls at (Err e) turns = λ s fit. turns s
+
 -- where the whole goes on with further symbols
-pub takes_before : {A : Type 0} (fits : List Symbol → Type 0) (before part rest : List Symbol) (ls : List Lexeme) (at here : ℕ) (r : Result (A × ℕ) ParseError)
-    → ((s : List Symbol) → fits s → run language (before ++ s) (ahead ls at) ≡ run language (part ++ (rest ++ s)) (ahead ls here)) → Takes part ls here r
-    → TurnsWhere fits before rest (λ x. x.1) ls at r
-takes_before fits before part rest ls at here (Ok x) same takes = λ s fit. same s fit ∙ takes (rest ++ s)
-takes_before fits before part rest ls at here (Err e) same takes = λ s fit f told. same s fit ∙ takes (rest ++ s) f told
+pub takes_before : {A : Type 0} (before part rest : List Symbol) (ls : List Lexeme) (at here : ℕ) (r : Result (A × ℕ) ParseError)
+    → ((s : List Symbol) → run language (before ++ s) (ahead ls at) ≡ run language (part ++ (rest ++ s)) (ahead ls here)) → Takes part ls here r → Turns before rest (λ x. x.1) ls at r
+takes_before before part rest ls at here (Ok x) same takes = λ s. same s ∙ takes (rest ++ s)
+takes_before before part rest ls at here (Err e) same takes = λ s f told. same s ∙ takes (rest ++ s) f told
 
 pub turns_before : {A : Type 0} (fits inner : List Symbol → Type 0) (before part rest : List Symbol) (ls : List Lexeme) (at here : ℕ) (r : Result (A × ℕ) ParseError)
     → ((s : List Symbol) → fits s → run language (before ++ s) (ahead ls at) ≡ run language (part ++ (rest ++ s)) (ahead ls here)) → ((s : List Symbol) → fits s → inner (rest ++ s))
@@ -69,6 +73,10 @@ assigned v ys ts none = by v.reference v.number none
         → run language (after_variable_of (record { reference = r; number = n }) ++ ys) ts ≡ run language (sign Assign ∷ value ∷ sign Semicolon ∷ ys) ts
     by true n lacks = reference_assigned (record { reference = true; number = n }) ys ts lacks
     by false n lacks = refl
+
+pub variable_taken : (counts : Bool) (v : CVar) (ts rest : List text.Lexeme) (ys : List Symbol) → Begins (t.variable v) ts rest
+    → run language (stmts counts ∷ ys) ts ≡ run language (after_variable_of v ++ stmts counts ∷ ys) rest
+variable_taken counts v ts rest ys h = variable_begins counts v.reference v.number ts rest ys h
 
 -- ---- calls
 

@@ -40,10 +40,10 @@ vars_one : (ds : List Declaration) (e : Declaration) (rest : List Token) → var
 vars_one [] e rest = refl
 vars_one (d ∷ ds) e rest = ap (λ r. declaration_then d (t.sign s.Semicolon ∷ r)) (vars_one ds e rest)
 
-pub var_read : (ds all : List CodeDeclaration) (e : CodeDeclaration) (start here following rest : List Token) → all ≡ ds ++ e ∷ [] → start ≡ vars_then (map declaration_of ds) here → here ≡ declaration_then (declaration_of e) following → following ≡ t.sign s.Semicolon ∷ rest
+pub var_read : (ds all : List CodeDeclaration) (e : CodeDeclaration) (start here rest : List Token) → all ≡ ds ++ e ∷ [] → start ≡ vars_then (map declaration_of ds) here → here ≡ declaration_then (declaration_of e) (t.sign s.Semicolon ∷ rest)
     → start ≡ vars_then (map declaration_of all) rest
-var_read ds all e start here following rest grown before var end =
-    before ∙ ap (vars_then (map declaration_of ds)) (var ∙ ap (declaration_then (declaration_of e)) end) ∙ sym (vars_one (map declaration_of ds) (declaration_of e) rest)
+var_read ds all e start here rest grown before var =
+    before ∙ ap (vars_then (map declaration_of ds)) var ∙ sym (vars_one (map declaration_of ds) (declaration_of e) rest)
     ∙ ap (λ es. vars_then es rest) (sym (ap (map declaration_of) grown ∙ map-append declaration_of ds (e ∷ [])))
 
 heads_one : (hs : List Head) (h : Head) (rest : List Token) → heads_then (hs ++ h ∷ []) rest ≡ heads_then hs (head_then h (t.sign s.Semicolon ∷ rest))

@@ -1,5 +1,6 @@
 -- Statements of the code, and what reading their parts says of the whole.
 use Rattle.std.proofs.Common.{◌≡◌, ◌≤◌, ℕ, suc, pos, ◌+◌, true, List, [], ◌∷◌, ◌++◌, Some, map, max, refl, sym, ap, ◌∙◌, rules, arith, le_trans}
+use Rattle.std.specs.Prelude.{Result, Ok, Err, IfOk}
 use Rattle.std.proofs.Math.Nat.{le-max_left, le-max_right}
 use Rattle.std.proofs.lemmas.List.{map-append}
 use Rattle.c_syntax.specs.declared.token.CSign.TheVariants as s
@@ -14,11 +15,12 @@ use Rattle.c_syntax.specs.Spelling.{cell_then, expr_then, stmt_then, stmts_then}
 use Rattle.c_syntax.specs.Grammar.{IsExpr, IsStmt, AreStmts, expr_depth, deepest_in, deepest, nested_in, nested, language}
 use Rattle.c_syntax.specs.declared.program.CExpr.{CExpr}
 use Rattle.c_syntax.specs.declared.program.CStmt.{CStmt, the_lemmas}
-use Rattle.c_syntax.specs.declared.program.CStmt.{Set as CodeSet, Put as CodePut, If as CodeIf, IfElse as CodeIfElse, While as CodeWhile, Return as CodeReturn}
+use Rattle.c_syntax.specs.declared.program.CStmt.{Set as CodeSet, Put as CodePut, IfElse as CodeIfElse, While as CodeWhile, Return as CodeReturn}
 use Rattle.c_syntax.specs.View.{expr_of, stmt_of, stmts_of, stmts_made}
 use Rattle.c_lexer.specs.declared.token.Lexeme.{Lexeme}
 use Rattle.c_lexer.specs.View.{tokens_from}
-use Rattle.c_parser.specs.Parsing.{Reads, ReadsAfter, ReadsAfterTwo}
+use Rattle.c_parser.specs.declared.error.ParseError.{ParseError}
+use Rattle.c_parser.specs.Parsing.{Reads, ReadsAfter, ReadsAfterTwo, ReadsOn, referring}
 
 pub max_le : (a b n : ℕ) → a ≤ n → b ≤ n → max a b ≤ n
 max_le a b n h k = omega (arith, h, k)
@@ -32,12 +34,15 @@ one_deeper a room h = omega (arith, h)
 return_seen : (e : CExpr) → stmt_of (CodeReturn (Some e)) ≡ c.return (Some (expr_of e))
 return_seen e = search (rules, the_lemmas)
 
-pub return_reads : (ls : List Lexeme) (at next following : ℕ) (e : CExpr) → Reads ls at next (expr_then (expr_of e)) → Reads ls next following (λ rest. t.sign s.Semicolon ∷ rest)
-    → ReadsAfter (t.word w.Return) ls at following (stmt_then (stmt_of (CodeReturn (Some e))))
-return_reads ls at next following e a b = record {
-  spells = ap (λ ts. t.word w.Return ∷ ts) (a.spells ∙ ap (expr_then (expr_of e)) b.spells) ∙ ap (λ x. stmt_then x (tokens_from ls following)) (sym (return_seen e));
-  later = omega (arith, a.later, b.later);
-  within = b.within;
+-- an expression and its semicolon
+abbrev Ends : List Lexeme → ℕ → ℕ → CExpr → Type 0
+Ends ls at next e = Reads ls at next (λ rest. expr_then (expr_of e) (t.sign s.Semicolon ∷ rest))
+
+pub return_reads : (ls : List Lexeme) (at next : ℕ) (e : CExpr) → Ends ls at next e → ReadsAfter (t.word w.Return) ls at next (stmt_then (stmt_of (CodeReturn (Some e))))
+return_reads ls at next e a = record {
+  spells = ap (λ ts. t.word w.Return ∷ ts) a.spells ∙ ap (λ x. stmt_then x (tokens_from ls next)) (sym (return_seen e));
+  later = a.later;
+  within = a.within;
 }
 
 pub return_is : (e : CExpr) → IsExpr 16 (expr_of e) → (room : ℕ) → IsStmt language.expressions room (stmt_of (CodeReturn (Some e)))
@@ -46,12 +51,11 @@ return_is e is room = rw (return_seen e) (record { written = is.arities; express
 set_seen : (v : CVar) (e : CExpr) → stmt_of (CodeSet v e) ≡ c.set v (expr_of e)
 set_seen v e = search (rules, the_lemmas)
 
-pub set_reads : (ls : List Lexeme) (at next following : ℕ) (v : CVar) (e : CExpr) → Reads ls at next (expr_then (expr_of e)) → Reads ls next following (λ rest. t.sign s.Semicolon ∷ rest)
-    → ReadsAfterTwo (t.variable v) (t.sign s.Assign) ls at following (stmt_then (stmt_of (CodeSet v e)))
-set_reads ls at next following v e a b = record {
-  spells = ap (λ ts. t.variable v ∷ t.sign s.Assign ∷ ts) (a.spells ∙ ap (expr_then (expr_of e)) b.spells) ∙ ap (λ x. stmt_then x (tokens_from ls following)) (sym (set_seen v e));
-  later = omega (arith, a.later, b.later);
-  within = b.within;
+pub set_reads : (ls : List Lexeme) (at next : ℕ) (v : CVar) (e : CExpr) → Ends ls at next e → ReadsAfterTwo (t.variable v) (t.sign s.Assign) ls at next (stmt_then (stmt_of (CodeSet v e)))
+set_reads ls at next v e a = record {
+  spells = ap (λ ts. t.variable v ∷ t.sign s.Assign ∷ ts) a.spells ∙ ap (λ x. stmt_then x (tokens_from ls next)) (sym (set_seen v e));
+  later = a.later;
+  within = a.within;
 }
 
 pub set_is : (v : CVar) (e : CExpr) → IsExpr 16 (expr_of e) → (room : ℕ) → IsStmt language.expressions room (stmt_of (CodeSet v e))
@@ -60,18 +64,17 @@ set_is v e is room = rw (set_seen v e) (record { written = is.arities; expressio
 put_seen : (x : CCell) (e : CExpr) → stmt_of (CodePut x e) ≡ c.put x (expr_of e)
 put_seen x e = search (rules, the_lemmas)
 
-referred : (v : CVar) → v.reference ≡ true → v ≡ record { reference = true; number = v.number }
+referred : (v : CVar) → v.reference ≡ true → v ≡ referring v.number
 referred v is = ap (λ r. record { reference = r; number = v.number }) is
 
-pub put_reads : (ls : List Lexeme) (at n m k following : ℕ) (v : CVar) (x : CCell) (e : CExpr) → v.reference ≡ true → ReadsAfter (t.variable (record { reference = true; number = v.number })) ls at n (cell_then x)
-    → Reads ls n m (λ rest. t.sign s.Assign ∷ rest) → Reads ls m k (expr_then (expr_of e)) → Reads ls k following (λ rest. t.sign s.Semicolon ∷ rest)
-    → ReadsAfter (t.variable v) ls at following (stmt_then (stmt_of (CodePut x e)))
-put_reads ls at n m k following v x e is a b c d = record {
+pub put_reads : (ls : List Lexeme) (at n m following : ℕ) (v : CVar) (x : CCell) (e : CExpr) → v.reference ≡ true → ReadsAfter (t.variable (referring v.number)) ls at n (cell_then x)
+    → Reads ls n m (λ rest. t.sign s.Assign ∷ rest) → Ends ls m following e → ReadsAfter (t.variable v) ls at following (stmt_then (stmt_of (CodePut x e)))
+put_reads ls at n m following v x e is a b c = record {
   spells = ap (λ w. t.variable w ∷ tokens_from ls at) (referred v is) ∙ a.spells
-      ∙ ap (cell_then x) (b.spells ∙ ap (λ ts. t.sign s.Assign ∷ ts) (c.spells ∙ ap (expr_then (expr_of e)) d.spells))
+      ∙ ap (cell_then x) (b.spells ∙ ap (λ ts. t.sign s.Assign ∷ ts) c.spells)
       ∙ ap (λ y. stmt_then y (tokens_from ls following)) (sym (put_seen x e));
-  later = omega (arith, a.later, b.later, c.later, d.later);
-  within = d.within;
+  later = omega (arith, a.later, b.later, c.later);
+  within = c.within;
 }
 
 pub put_is : (x : CCell) (e : CExpr) → IsExpr 16 (expr_of e) → (room : ℕ) → IsStmt language.expressions room (stmt_of (CodePut x e))
@@ -82,37 +85,16 @@ put_is x e is room = rw (put_seen x e) (record { written = is.arities; expressio
 abbrev Opens : List Lexeme → ℕ → ℕ → List CStmt → Type 0
 Opens ls at next xs = Reads ls at next (λ rest. t.sign s.OpenBrace ∷ stmts_then (stmts_of xs) (t.sign s.CloseBrace ∷ rest))
 
-if_seen : (e : CExpr) (xs : List CStmt) → stmt_of (CodeIf e xs) ≡ c.when (expr_of e) (stmts_of xs)
-if_seen e xs = search (rules, the_lemmas)
-
-pub if_reads : (ls : List Lexeme) (at n m k following : ℕ) (e : CExpr) (xs : List CStmt) → Reads ls at n (λ rest. t.sign s.OpenParen ∷ rest) → Reads ls n m (expr_then (expr_of e))
-    → Reads ls m k (λ rest. t.sign s.CloseParen ∷ rest) → Opens ls k following xs → ReadsAfter (t.word w.If) ls at following (stmt_then (stmt_of (CodeIf e xs)))
-if_reads ls at n m k following e xs a b c d = record {
-  spells = ap (λ ts. t.word w.If ∷ ts) (a.spells ∙ ap (λ ts. t.sign s.OpenParen ∷ ts) (b.spells ∙ ap (expr_then (expr_of e)) (c.spells ∙ ap (λ ts. t.sign s.CloseParen ∷ ts) d.spells)))
-      ∙ ap (λ y. stmt_then y (tokens_from ls following)) (sym (if_seen e xs));
-  later = omega (arith, a.later, b.later, c.later, d.later);
-  within = d.within;
-}
-
-pub if_is : (e : CExpr) (xs : List CStmt) (room : ℕ) → IsExpr 16 (expr_of e) → AreStmts language.expressions room (stmts_of xs) → IsStmt language.expressions (room + 1) (stmt_of (CodeIf e xs))
-if_is e xs room is are = rw (if_seen e xs) (record {
-  written = (is.arities, are.written);
-  expressions = max_le (expr_depth (expr_of e)) (deepest (stmts_of xs)) 16 is.depth_fits are.expressions;
-  blocks = one_deeper (nested (stmts_of xs)) room are.blocks;
-})
-
 if_else_seen : (e : CExpr) (xs ys : List CStmt) → stmt_of (CodeIfElse e xs ys) ≡ c.choose (expr_of e) (stmts_of xs) (stmts_of ys)
 if_else_seen e xs ys = search (rules, the_lemmas)
 
-pub if_else_reads : (ls : List Lexeme) (at n m k j following : ℕ) (e : CExpr) (xs ys : List CStmt) → Reads ls at n (λ rest. t.sign s.OpenParen ∷ rest) → Reads ls n m (expr_then (expr_of e))
-    → Reads ls m k (λ rest. t.sign s.CloseParen ∷ rest) → Opens ls k j xs → Reads ls j (j + 1) (λ rest. t.word w.Else ∷ rest) → Opens ls (j + 1) following ys
-    → ReadsAfter (t.word w.If) ls at following (stmt_then (stmt_of (CodeIfElse e xs ys)))
-if_else_reads ls at n m k j following e xs ys a b c d f g = record {
-  spells = ap (λ ts. t.word w.If ∷ ts) (a.spells ∙ ap (λ ts. t.sign s.OpenParen ∷ ts) (b.spells ∙ ap (expr_then (expr_of e)) (c.spells ∙ ap (λ ts. t.sign s.CloseParen ∷ ts)
-      (d.spells ∙ ap (λ ts. t.sign s.OpenBrace ∷ stmts_then (stmts_of xs) (t.sign s.CloseBrace ∷ ts)) (f.spells ∙ ap (λ ts. t.word w.Else ∷ ts) g.spells)))))
+pub if_else_ends : (ls : List Lexeme) (at following : ℕ) (e : CExpr) (xs ys : List CStmt) → Reads ls at (at + 1) (λ rest. t.word w.Else ∷ rest) → Opens ls (at + 1) following ys
+    → ReadsOn ls at following (c.when (expr_of e) (stmts_of xs)) (stmt_of (CodeIfElse e xs ys))
+if_else_ends ls at following e xs ys a b = record {
+  spells = ap (stmt_then (c.when (expr_of e) (stmts_of xs))) (a.spells ∙ ap (λ ts. t.word w.Else ∷ ts) b.spells)
       ∙ ap (λ y. stmt_then y (tokens_from ls following)) (sym (if_else_seen e xs ys));
-  later = omega (arith, a.later, b.later, c.later, d.later, f.later, g.later);
-  within = g.within;
+  later = omega (arith, a.later, b.later);
+  within = b.within;
 }
 
 pub if_else_is : (e : CExpr) (xs ys : List CStmt) (room : ℕ) → IsExpr 16 (expr_of e) → AreStmts language.expressions room (stmts_of xs) → AreStmts language.expressions room (stmts_of ys)
@@ -123,16 +105,26 @@ if_else_is e xs ys room is are other = rw (if_else_seen e xs ys) (record {
   blocks = one_deeper (max (nested (stmts_of xs)) (nested (stmts_of ys))) room (max_le (nested (stmts_of xs)) (nested (stmts_of ys)) room are.blocks other.blocks);
 })
 
+-- the whole of an `if`, whatever comes after its first block
+pub if_reads : (ls : List Lexeme) (at n m : ℕ) (e : CExpr) (xs : List CStmt) (r : Result (CStmt × ℕ) ParseError) → Reads ls at n (λ rest. t.sign s.OpenParen ∷ expr_then (expr_of e) (t.sign s.CloseParen ∷ rest)) → Opens ls n m xs
+    → IfOk r (λ x. ReadsOn ls m x.1 (c.when (expr_of e) (stmts_of xs)) (stmt_of x.0)) → IfOk r (λ x. ReadsAfter (t.word w.If) ls at x.1 (stmt_then (stmt_of x.0)))
+if_reads ls at n m e xs (Ok x) a b h = record {
+  spells = ap (λ ts. t.word w.If ∷ ts) (a.spells ∙ ap (λ ts. t.sign s.OpenParen ∷ expr_then (expr_of e) (t.sign s.CloseParen ∷ ts)) b.spells) ∙ h.spells;
+  later = omega (arith, a.later, b.later, h.later);
+  within = h.within;
+}
+if_reads ls at n m e xs (Err x) a b h = tt
+
 while_seen : (xs : List CStmt) → stmt_of (CodeWhile xs) ≡ c.loop (stmts_of xs)
 while_seen xs = search (rules, the_lemmas)
 
-pub while_reads : (ls : List Lexeme) (at n m following : ℕ) (xs : List CStmt) → Reads ls at n (λ rest. t.sign s.OpenParen ∷ rest) → Reads ls n (n + 1) (λ rest. t.number (pos 1) ∷ rest)
-    → Reads ls (n + 1) m (λ rest. t.sign s.CloseParen ∷ rest) → Opens ls m following xs → ReadsAfter (t.word w.While) ls at following (stmt_then (stmt_of (CodeWhile xs)))
-while_reads ls at n m following xs a b c d = record {
-  spells = ap (λ ts. t.word w.While ∷ ts) (a.spells ∙ ap (λ ts. t.sign s.OpenParen ∷ ts) (b.spells ∙ ap (λ ts. t.number (pos 1) ∷ ts) (c.spells ∙ ap (λ ts. t.sign s.CloseParen ∷ ts) d.spells)))
+pub while_reads : (ls : List Lexeme) (at n following : ℕ) (xs : List CStmt) → Reads ls at n (λ rest. t.sign s.OpenParen ∷ t.number (pos 1) ∷ t.sign s.CloseParen ∷ rest) → Opens ls n following xs
+    → ReadsAfter (t.word w.While) ls at following (stmt_then (stmt_of (CodeWhile xs)))
+while_reads ls at n following xs a b = record {
+  spells = ap (λ ts. t.word w.While ∷ ts) (a.spells ∙ ap (λ ts. t.sign s.OpenParen ∷ t.number (pos 1) ∷ t.sign s.CloseParen ∷ ts) b.spells)
       ∙ ap (λ y. stmt_then y (tokens_from ls following)) (sym (while_seen xs));
-  later = omega (arith, a.later, b.later, c.later, d.later);
-  within = d.within;
+  later = omega (arith, a.later, b.later);
+  within = b.within;
 }
 
 pub while_is : (xs : List CStmt) (room : ℕ) → AreStmts language.expressions room (stmts_of xs) → IsStmt language.expressions (room + 1) (stmt_of (CodeWhile xs))

@@ -42,6 +42,10 @@ abbrev pub TurnsWhere : {A : Type 0} → (fits : List Symbol → Type 0) → (be
 TurnsWhere fits before after next ls at (Ok x) = (ys : List Symbol) → fits ys → run language (before ++ ys) (ahead ls at) ≡ run language (after ++ ys) (ahead ls (next x))
 TurnsWhere fits before after next ls at (Err e) = (ys : List Symbol) → fits ys → Fails (run language (before ++ ys) (ahead ls at)) e
 
+-- with the first symbols the automaton goes on as with the second, from where those begin
+abbrev pub GoesOn : (before after : List Symbol) → List Lexeme → (at next : ℕ) → Type 0
+GoesOn before after ls at next = (ys : List Symbol) → run language (before ++ ys) (ahead ls at) ≡ run language (after ++ ys) (ahead ls next)
+
 -- it takes just what the symbols take
 abbrev pub Takes : {A : Type 0} → List Symbol → List Lexeme → ℕ → Result (A × ℕ) ParseError → Type 0
 Takes symbols ls at r = Turns symbols [] (λ x. x.1) ls at r

@@ -1,6 +1,8 @@
 //! Calls.
 
 ghost use Rattle.std.specs.Prelude.{◌≡◌, ◌+◌, [], ◌∷◌, false, true, map, IfOk};
+ghost use Rattle.c_syntax.specs.Tokens as t;
+ghost use Rattle.c_syntax.specs.declared.token.CSign.TheVariants.{OpenParen};
 ghost use Rattle.c_syntax.specs.Spelling.{arg_token, args_then, call_then};
 ghost use Rattle.c_syntax.specs.Grammar.{HasNoText, IsCall};
 ghost use Rattle.c_syntax.specs.View.{arg_of, call_of};
@@ -78,7 +80,42 @@ fn args(
     more_args(alloc, lexemes, at + 1, texts, first)
 }
 
+/// The arguments of a call, with both parentheses.
+fn all_args(
+    alloc: Global,
+    lexemes: &[Lexeme<'_>],
+    at: usize,
+    texts: bool,
+) -> Result<(Items<CArg>, usize), ParseError>
+    ensures reads { IfOk result (λ x. Reads lexemes.now at x.1
+        (λ rest. t.sign OpenParen ∷ args_then (map arg_of x.0) rest)) }
+    ensures is { IfOk result (λ x. texts ≡ false → HasNoText (map arg_of x.0)) }
+    ensures follows { Takes (machine.sign OpenParen ∷ machine.args texts ∷ [])
+        lexemes.now at result }
+{
+    let open = sign(lexemes, at, CSign::OpenParen)?;
+    args(alloc, lexemes, open, texts)
+}
+
+/// Whether strings may be arguments of a primitive.
+fn takes_texts(primitive: CPrim) -> bool
+    ensures { result ≡ machine.is_string_taker primitive }
+{
+    matches!(primitive, CPrim::Call)
+}
+
+/// Whether a call begins at a position.
+pub fn is_call(lexemes: &[Lexeme<'_>], at: usize) -> bool
+    ensures { result ≡ begins_with is_callee (ahead lexemes.now at) }
+{
+    matches!(
+        token(lexemes, at),
+        Some(Token::Name(_) | Token::Primitive(_))
+    )
+}
+
 /// A call.
+#[tactic(auto, using(crate::proofs::Automata::value_primitive, crate::proofs::Arguments::primitive_is_call))]
 pub fn call(alloc: Global, lexemes: &[Lexeme<'_>], at: usize) -> Result<(CCall, usize), ParseError>
     ensures reads { IfOk result (λ x. Reads lexemes.now at x.1 (call_then (call_of x.0))) }
     ensures is { IfOk result (λ x. IsCall (call_of x.0)) }
@@ -87,13 +124,11 @@ pub fn call(alloc: Global, lexemes: &[Lexeme<'_>], at: usize) -> Result<(CCall, 
 {
     match token(lexemes, at) {
         Some(Token::Name(name)) => {
-            let open = sign(lexemes, at + 1, CSign::OpenParen)?;
-            let (args, next) = args(alloc, lexemes, open, false)?;
+            let (args, next) = all_args(alloc, lexemes, at + 1, false)?;
             Ok((CCall::Function(name, args), next))
         }
         Some(Token::Primitive(primitive)) => {
-            let open = sign(lexemes, at + 1, CSign::OpenParen)?;
-            let (args, next) = args(alloc, lexemes, open, primitive == CPrim::Call)?;
+            let (args, next) = all_args(alloc, lexemes, at + 1, takes_texts(primitive))?;
             Ok((CCall::Primitive(primitive, args), next))
         }
         _ => Err(refuse(lexemes, at)),

@@ -1,6 +1,6 @@
 //! One token at a time.
 
-ghost use Rattle.std.specs.Prelude.{◌≡◌, ◌∷◌, [], ◌+◌, ◌≤◌, Some, MatchOption, IfOk, IsTrue};
+ghost use Rattle.std.specs.Prelude.{◌≡◌, ◌∷◌, [], ◌+◌, ◌≤◌, pos, Some, MatchOption, IfOk, IsTrue};
 ghost use Rattle.c_syntax.specs.Tokens as t;
 ghost use Rattle.c_lexer.specs.View.{token_of, tokens_from};
 ghost use Rattle.c_parser.specs.Parsing.{Reads};
@@ -59,6 +59,19 @@ pub fn word(lexemes: &[Lexeme<'_>], at: usize, wanted: CWord) -> Result<usize, P
         return Err(refuse(lexemes, at));
     }
     Ok(at + 1)
+}
+
+/// Reads a number that isn't negative.
+pub fn natural(lexemes: &[Lexeme<'_>], at: usize) -> Result<u64, ParseError>
+    ensures reads { IfOk result (λ n. Reads lexemes.now at (at + 1)
+        (λ rest. t.number (pos n) ∷ rest)) }
+    ensures follows { Turns (machine.natural ∷ []) [] (λ n. at + 1)
+        lexemes.now at result }
+{
+    match token(lexemes, at) {
+        Some(Token::Number(value)) if value >= 0 => Ok(value as u64),
+        _ => Err(refuse(lexemes, at)),
+    }
 }
 
 /// Whether a sign stands at a position.

@@ -1,6 +1,6 @@
 //! Heads, functions with their bodies, and the whole.
 
-ghost use Rattle.std.specs.Prelude.{◌≡◌, ◌+◌, ◌≤◌, ◌<◌, [], ◌∷◌, Bool, false, pos, ◌&&◌, length, map, IfErr, IfOk, IsTrue};
+ghost use Rattle.std.specs.Prelude.{◌≡◌, ◌+◌, ◌≤◌, ◌<◌, [], ◌∷◌, Bool, false, ◌&&◌, length, map, IfErr, IfOk, IsTrue};
 ghost use Rattle.c_syntax.specs.Tokens as t;
 ghost use Rattle.c_syntax.specs.Spelling.{declaration_then, head_then, params_then, result_then, spelling, type_then, vars_then};
 ghost use Rattle.c_syntax.specs.Grammar.{AreStmts, IsUnit, language};
@@ -14,6 +14,7 @@ ghost use Rattle.c_automaton.specs.Ahead.{begins_sign, begins_with, after_head_o
 
 use crate::cursor::{is_sign, is_word, refuse, sign, token, word};
 use crate::error::ParseError;
+use crate::lines::first_lines;
 use crate::stmts::stmts;
 use crate::unit::{Body, Declaration, Head, Unit};
 use c_lexer::{Lexeme, Token};
@@ -159,6 +160,19 @@ fn begins_type(lexemes: &[Lexeme<'_>], at: usize) -> bool
     is_word(lexemes, at, CWord::Ref) || is_word(lexemes, at, CWord::Long)
 }
 
+/// The declaration of a variable, with its semicolon.
+fn var(lexemes: &[Lexeme<'_>], at: usize) -> Result<(Declaration, usize), ParseError>
+    ensures reads { IfOk result (λ x. Reads lexemes.now at x.1
+        (λ rest. declaration_then (declaration_of x.0) (t.sign Semicolon ∷ rest))) }
+    ensures follows { Takes
+        (machine.type ∷ machine.any_variable ∷ machine.sign Semicolon ∷ [])
+        lexemes.now at result }
+{
+    let (var, next) = declaration(lexemes, at)?;
+    let next = sign(lexemes, next, CSign::Semicolon)?;
+    Ok((var, next))
+}
+
 /// The declarations of variables.
 #[tactic(auto, using(c_automaton::proofs::Taking::var_begins, c_automaton::proofs::Taking::no_type))]
 fn vars(
@@ -175,9 +189,9 @@ fn vars(
     let mut vars = Items::new(alloc);
     let mut here = at;
     while begins_type(lexemes, here) {
-        let (var, next) = declaration(lexemes, here)?;
-        here = sign(lexemes, next, CSign::Semicolon)?;
+        let (var, next) = var(lexemes, here)?;
         vars.push(var)?;
+        here = next;
     }
     Ok((vars, here))
 }
@@ -210,36 +224,6 @@ fn is_alone(lexemes: &[Lexeme<'_>], at: usize, bodies: &[Body]) -> bool
     ensures comes { IsTrue result → Comes (t.sign Semicolon) lexemes.now at (at + 1) }
 {
     bodies.is_empty() && is_sign(lexemes, at, CSign::Semicolon)
-}
-
-/// The number in the second line.
-fn first_lines(lexemes: &[Lexeme<'_>]) -> Result<u64, ParseError>
-    ensures reads { IfOk result (λ main. tokens_from lexemes.now 0 ≡ t.include ∷ t.line_end
-        ∷ t.define ∷ t.number (pos main) ∷ t.line_end ∷ tokens_from lexemes.now 5) }
-    ensures within { IfOk result (λ main. 5 ≤ length lexemes.now) }
-    ensures follows { Turns (machine.include ∷ machine.line_end ∷ machine.define
-        ∷ machine.natural ∷ machine.line_end ∷ []) [] (λ main. 5) lexemes.now 0 result }
-{
-    match token(lexemes, 0) {
-        Some(Token::Include) => {}
-        _ => return Err(refuse(lexemes, 0)),
-    }
-    match token(lexemes, 1) {
-        Some(Token::LineEnd) => {}
-        _ => return Err(refuse(lexemes, 1)),
-    }
-    match token(lexemes, 2) {
-        Some(Token::Define) => {}
-        _ => return Err(refuse(lexemes, 2)),
-    }
-    let main = match token(lexemes, 3) {
-        Some(Token::Number(value)) if value >= 0 => value as u64,
-        _ => return Err(refuse(lexemes, 3)),
-    };
-    match token(lexemes, 4) {
-        Some(Token::LineEnd) => Ok(main),
-        _ => Err(refuse(lexemes, 4)),
-    }
 }
 
 /// All tokens of a text.

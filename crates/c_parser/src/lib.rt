@@ -14,6 +14,8 @@ mod cursor;
 mod error;
 mod exprs;
 mod functions;
+mod lines;
+mod simple;
 mod stmts;
 mod unit;
 

@@ -7,20 +7,23 @@ use Rattle.c_automaton.specs.Automaton as machine
 use Rattle.c_parser.specs.Following.{ahead, WithRoom}
 use Rattle.c_parser.proofs.stmts.+statements.Given as goal
 
-abbrev pub decreases-block : goal.decreases-block
-decreases-block l = 4 * l.room + 2
+abbrev pub decreases-stmt : goal.decreases-stmt
+decreases-stmt l = 5 * l.room
 
 abbrev pub decreases-stmts : goal.decreases-stmts
-decreases-stmts l = 4 * l.room + 1
+decreases-stmts l = 5 * l.room + 1
 
-abbrev pub decreases-stmt : goal.decreases-stmt
-decreases-stmt l = 4 * l.room
+abbrev pub decreases-block : goal.decreases-block
+decreases-block l = 5 * l.room + 2
 
-abbrev pub decreases-following_if : goal.decreases-following_if
-decreases-following_if l = 4 * l.room + 3
+abbrev pub decreases-after_first_block : goal.decreases-after_first_block
+decreases-after_first_block l = 5 * l.room + 3
+
+abbrev pub decreases-after_if : goal.decreases-after_if
+decreases-after_if l = 5 * l.room + 4
 
 abbrev pub decreases-after_while : goal.decreases-after_while
-decreases-after_while l = 4 * l.room + 3
+decreases-after_while l = 5 * l.room + 4
 
 abbrev pub decreases-stmts-loop-alloc : goal.decreases-stmts-loop-alloc
 decreases-stmts-loop-alloc l = length l.lexemes - l.here
