@@ -1,7 +1,10 @@
 pub mod Ascii
 pub mod Bytes
 pub mod Found
+pub mod Fronts
 pub mod Heads
+pub mod Keys
+pub mod Letters
 pub mod OneAnswer
 pub mod OneKind
 pub mod OneReading

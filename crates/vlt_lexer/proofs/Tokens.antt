@@ -54,3 +54,7 @@ pub placed_refused : (f : Stuck) (at : ℕ) (text : List ℕ) → IsUtf8 text �
 placed_refused stuck.BadByte at text u h = (u, h)
 placed_refused stuck.NumberTooLarge at text u h = (u, h)
 placed_refused stuck.OpenComment at text u h = (u, h)
+
+-- past blanks, no more is read
+pub found_skipped : (total : ℕ) (text : List ℕ) (found : List Token) (left front : List ℕ) → ((whole : ℕ) (ls : List Lexeme) (last : List ℕ) → Reads whole front ls last → Reads whole left ls last) → Found total text found left → Found total text found front
+found_skipped total text found left front reads f = record { goes_on = λ ls last r. f.goes_on ls last (reads total ls last r) }

@@ -1,3 +1,4 @@
+pub mod AsciiPieces
 pub mod Places
 pub mod Reading
 pub mod Steps

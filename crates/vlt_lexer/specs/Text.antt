@@ -2,6 +2,7 @@
 use Rattle.std.specs.Prelude.{◌≡◌, ◌<◌, ◌≤◌, ℕ, ◌+◌, List, [], ◌∷◌, length, slice_range}
 use Rattle.std.specs.Str.{chars, IsUtf8, IsValidUpTo}
 use Rattle.vlt_base.specs.Limits.{limit_of}
+use Rattle.vlt_base.specs.declared.limits.TheConstants.{TOKENS}
 use Rattle.vlt_lexer.specs.declared.scan.Stuck.{Stuck}
 use Rattle.vlt_lexer.specs.declared.scan.Stuck.TheVariants as stuck
 use Rattle.vlt_lexer.specs.declared.LexError.{LexError}
@@ -21,11 +22,11 @@ AreSlicesOf text start (l ∷ ls) = (start ≤ l.from) × (l.from < l.to) × (l.
 
 -- more tokens can be read from the text's start than may be
 abbrev pub HasTooMany : List ℕ → Type 0
-HasTooMany text = (ls : List Lexeme) × (left : List ℕ) × Reads (length text) (chars text) ls left × (limit_of 3 < length ls)
+HasTooMany text = (ls : List Lexeme) × (left : List ℕ) × Reads (length text) (chars text) ls left × (limit_of TOKENS < length ls)
 
 -- tokens within the limit can be read up to this place, and after it nothing can be
 abbrev pub StopsAt : Stuck → ℕ → List ℕ → Type 0
-StopsAt f at text = (ls : List Lexeme) × (left : List ℕ) × Reads (length text) (chars text) ls left × (length ls ≤ limit_of 3) × IsStuck f left × (at + width left ≡ length text)
+StopsAt f at text = (ls : List Lexeme) × (left : List ℕ) × Reads (length text) (chars text) ls left × (length ls ≤ limit_of TOKENS) × IsStuck f left × (at + width left ≡ length text)
 
 -- why a text is refused
 abbrev pub IsRefused : List ℕ → LexError → Type 0

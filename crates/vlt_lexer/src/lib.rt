@@ -5,17 +5,20 @@
 
 ghost use Rattle.std.specs.Prelude.{◌≡◌, ◌⊎◌, ◌<◌, ◌≤◌, ◌+◌, ◌-◌, ◌^◌, List, length, take, IfOk, IfErr, MatchResult};
 ghost use Rattle.vlt_base.specs.Limits.{limit_of};
+ghost use Rattle.vlt_base.specs.declared.limits.TheConstants as limits;
 ghost use Rattle.vlt_tokens.specs.Lexemes.{lexemes, Lexeme};
 ghost use Rattle.vlt_lexer.specs.Text.{IsTokensOf, AreSlicesOf, IsRefused};
 ghost use Rattle.vlt_lexer.specs.Places.{error_at};
 ghost use Rattle.vlt_lexer.specs.declared.LexError.{LexError};
 
+mod ascii_pieces;
 mod scan;
 
+use ascii_pieces::past_blanks;
 use scan::{Piece, Stuck, next_piece};
 use std::alloc::{AllocError, AllocFailed, Global};
 use thiserror::Error;
-use vlt_base::{Span, limit};
+use vlt_base::{Span, TOKENS, limit};
 use vlt_tokens::{Token, TokenKind};
 
 /// Why a text has no list of tokens. A place is the number of bytes before it.
@@ -96,24 +99,25 @@ fn token_between<'a>(kind: TokenKind, text: &str, left: &'a str, after: &str) ->
 fn read_text(alloc: Global, text: &str) -> Result<Vec<Token<'_>>, LexError>
     requires { length text.now < 2 ^ 32 }
     ensures tokens { IfOk result (λ found. IsTokensOf text.now (lexemes found.items)) }
-    ensures few { IfOk result (λ found. length (lexemes found.items) ≤ limit_of 3) }
+    ensures few { IfOk result (λ found. length (lexemes found.items) ≤ limit_of limits.TOKENS) }
     ensures refused { IfErr result (λ e. (e ≡ LexError.Memory) ⊎ IsRefused text.now e) }
 {
     // With the blanks around it a token has some four bytes.
     let mut found = Vec::with_capacity(alloc, text.len() / 4)?;
     let mut left = text;
     loop {
-        match next_piece(left) {
+        let front = past_blanks(left);
+        match next_piece(front) {
             Ok(None) => return Ok(found),
             Ok(Some(Piece::Gap(after))) => left = after,
             Ok(Some(Piece::Token(kind, after))) => {
-                if found.len() as u64 == limit(3) {
+                if found.len() as u64 == limit(TOKENS) {
                     return Err(LexError::Limit(3));
                 }
-                found.push(token_between(kind, text, left, after))?;
+                found.push(token_between(kind, text, front, after))?;
                 left = after;
             }
-            Err(stuck) => return Err(stuck.at((text.len() - left.len()) as u32)),
+            Err(stuck) => return Err(stuck.at((text.len() - front.len()) as u32)),
         }
     }
 }
@@ -122,7 +126,7 @@ fn read_text(alloc: Global, text: &str) -> Result<Vec<Token<'_>>, LexError>
 fn read(alloc: Global, text: &[u8]) -> Result<Vec<Token<'_>>, LexError>
     requires { length text.now < 2 ^ 32 - 1 }
     ensures tokens { IfOk result (λ found. IsTokensOf text.now (lexemes found.items)) }
-    ensures few { IfOk result (λ found. length (lexemes found.items) ≤ limit_of 3) }
+    ensures few { IfOk result (λ found. length (lexemes found.items) ≤ limit_of limits.TOKENS) }
     ensures refused { IfErr result (λ e. (e ≡ LexError.Memory) ⊎ IsRefused text.now e) }
 {
     match str::from_utf8(text) {
@@ -135,14 +139,14 @@ fn read(alloc: Global, text: &[u8]) -> Result<Vec<Token<'_>>, LexError>
 pub fn lex(alloc: Global, text: &[u8]) -> Result<Vec<Token<'_>>, LexError>
     requires { length text.now < 2 ^ 32 - 1 }
     ensures tokens { IfOk result (λ found. IsTokensOf text.now (lexemes found.items)) }
-    ensures few { IfOk result (λ found. length (lexemes found.items) ≤ limit_of 3) }
+    ensures few { IfOk result (λ found. length (lexemes found.items) ≤ limit_of limits.TOKENS) }
     ensures refused { IfErr result (λ e. (e ≡ LexError.Memory) ⊎ IsRefused text.now e) }
 
     ensures slices { IfOk result (λ found. AreSlicesOf text.now 0 (lexemes found.items)) }
 
     // Where there is a list of tokens within the limit it is the answer, if there is memory, and likewise a refusal.
     ensures all_tokens { (ls : List Lexeme) → IsTokensOf text.now ls →
-        length ls ≤ limit_of 3 → MatchResult result (λ found. lexemes found.items ≡ ls)
+        length ls ≤ limit_of limits.TOKENS → MatchResult result (λ found. lexemes found.items ≡ ls)
         (λ e. e ≡ LexError.Memory) }
     ensures all_refusals { (refusal : LexError) → IsRefused text.now refusal →
         MatchResult result (λ _. ⊥) (λ e. (e ≡ LexError.Memory) ⊎ (e ≡ refusal)) }

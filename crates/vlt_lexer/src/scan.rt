@@ -9,6 +9,7 @@ ghost use Rattle.vlt_tokens.specs.declared.token.TheConstants.Word as words;
 ghost use Rattle.vlt_tokens.specs.declared.token.TheConstants.Mark as signs;
 ghost use Rattle.vlt_lexer.specs.Reading.{IsGap, IsStuck};
 
+use crate::ascii_pieces::ascii_piece;
 use vlt_tokens::{Mark, TokenKind, Word};
 
 /// A class of characters of which a run is taken.
@@ -346,8 +347,8 @@ fn number_token(text: &str) -> Result<Piece<'_>, Stuck>
     }
 }
 
-/// Takes one piece off the front of a text.
-pub fn next_piece(text: &str) -> Result<Option<Piece<'_>>, Stuck>
+/// Takes one piece off the front of a text, character after character.
+fn piece_by_characters(text: &str) -> Result<Option<Piece<'_>>, Stuck>
     ensures found { IfOk result (λ found. IsFound (chars text.now) found) }
     ensures stuck { IfErr result (λ stuck. IsStuck stuck (chars text.now)) }
     ensures shorter { IfOk result (λ found. IsShorter (length text.now) found) }
@@ -379,5 +380,17 @@ pub fn next_piece(text: &str) -> Result<Option<Piece<'_>>, Stuck>
     match sign(c, text) {
         Some((mark, rest)) => Ok(Some(Piece::Token(TokenKind::Sign(mark), rest))),
         None => Err(Stuck::BadByte),
+    }
+}
+
+/// Takes one piece off the front of a text.
+pub fn next_piece(text: &str) -> Result<Option<Piece<'_>>, Stuck>
+    ensures found { IfOk result (λ found. IsFound (chars text.now) found) }
+    ensures stuck { IfErr result (λ stuck. IsStuck stuck (chars text.now)) }
+    ensures shorter { IfOk result (λ found. IsShorter (length text.now) found) }
+{
+    match ascii_piece(text) {
+        Some(piece) => Ok(Some(piece)),
+        None => piece_by_characters(text),
     }
 }

@@ -8,7 +8,7 @@ use Rattle.vlt_lexer.specs.Steps.{past_name, sign_of, keyword_of, kind_of, IsNoC
 use Rattle.vlt_lexer.proofs.Bytes.{front_bytes}
 use Rattle.vlt_lexer.proofs.Words.{kind_is}
 use Rattle.vlt_lexer.proofs.Found.{name_stands, tick_stands, sign_stands, bad_stuck, tick_stuck}
-use Rattle.vlt_lexer.proofs.scan.next_piece.Goals as goal
+use Rattle.vlt_lexer.proofs.scan.piece_by_characters.Goals as goal
 
 pub returns-then-is_blank-clause-found : goal.returns-then-is_blank-clause-found
 returns-then-is_blank-clause-found c =
