@@ -9,8 +9,9 @@ use Rattle.c_syntax.specs.C.{Func, Program}
 use Rattle.c_meaning.specs.World as model
 use Rattle.c_meaning.specs.Run.{Numbered, main_of, number_at, count_in, count_in_all}
 use Rattle.c_machine.specs.Machine as m
-use Rattle.c_machine.specs.Machine.{State, names_of, first_conf}
-use Rattle.c_machine.specs.Bounds.{sizes_of, most, width_of, value_slots, Fits}
+use Rattle.c_machine.specs.Machine.{State, first_conf}
+use Rattle.c_meaning.specs.Widths.{names_of, most, width_of, value_slots}
+use Rattle.c_machine.specs.Bounds.{sizes_of, Fits}
 use Rattle.c_machine.specs.Within.{longest_name, AreWithin}
 use Rattle.c_machine.proofs.Starting.{first_fits}
 use Rattle.c_machine.proofs.Theorems.{machine_is_right}

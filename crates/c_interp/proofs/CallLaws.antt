@@ -14,7 +14,7 @@ use Rattle.c_meaning.specs.Values.{arg_values}
 use Rattle.c_meaning.specs.Run.{Setup, Numbered, Frame, function_of, can_call}
 use Rattle.c_machine.specs.Machine as m
 use Rattle.c_machine.specs.Machine.{Next, State, vars_in, frame_in}
-use Rattle.c_machine.specs.Bounds.{width_of, value_slots}
+use Rattle.c_meaning.specs.Widths.{width_of, value_slots}
 use Rattle.c_primitives.specs.declared.world.World.{World}
 use Rattle.c_primitives.specs.Shown.{Shows}
 use Rattle.vlt_steps.specs.Writing.{Outside}

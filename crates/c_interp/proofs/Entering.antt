@@ -10,7 +10,8 @@ use Rattle.c_syntax.specs.C.{Stmts}
 use Rattle.c_meaning.specs.World as model
 use Rattle.c_meaning.specs.Run.{Setup, Numbered, has_room, depth_in}
 use Rattle.c_machine.specs.Machine as m
-use Rattle.c_machine.specs.Machine.{State, Next, names_of, first_values}
+use Rattle.c_machine.specs.Machine.{State, Next, first_values}
+use Rattle.c_meaning.specs.Widths.{names_of}
 use Rattle.c_values.specs.declared.value.Value.{Value}
 use Rattle.c_values.specs.Shown.{value_view, shown_slots, AreMadeSlots}
 use Rattle.c_primitives.specs.declared.world.World.{World}

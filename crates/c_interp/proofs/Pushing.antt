@@ -7,7 +7,7 @@ use Rattle.c_syntax.specs.View.{arg_of, func_of}
 use Rattle.c_syntax.specs.C.{Arg}
 use Rattle.c_meaning.specs.World as model
 use Rattle.c_meaning.specs.Values.{◌>>=◌, arg_value, arg_values}
-use Rattle.c_machine.specs.Machine.{names_of}
+use Rattle.c_meaning.specs.Widths.{names_of}
 use Rattle.c_values.specs.declared.value.Value.{Value}
 use Rattle.c_values.specs.declared.vars.Vars.{Vars as Frame}
 use Rattle.c_values.specs.Shown.{value_view, names_in, shown_vars, AreMadeSlots, IsValue, IsMadeValue}

@@ -5,7 +5,8 @@ use Rattle.c_syntax.specs.declared.program.CResult.{CResult}
 use Rattle.c_syntax.specs.View.{func_of}
 use Rattle.c_meaning.specs.World as model
 use Rattle.c_machine.specs.Machine as m
-use Rattle.c_machine.specs.Machine.{State, names_of}
+use Rattle.c_machine.specs.Machine.{State}
+use Rattle.c_meaning.specs.Widths.{names_of}
 use Rattle.c_values.specs.declared.value.Value.{Value}
 use Rattle.c_values.specs.Shown.{value_view, shown_slots}
 use Rattle.c_interp.specs.declared.stop.CStop.{CStop}

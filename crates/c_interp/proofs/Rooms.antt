@@ -10,7 +10,8 @@ use Rattle.c_meaning.specs.World as model
 use Rattle.c_meaning.specs.Run.{Numbered, function_of}
 use Rattle.c_machine.specs.Machine as m
 use Rattle.c_machine.specs.Machine.{Conf}
-use Rattle.c_machine.specs.Bounds.{sizes_of, Fits, FitsNext, width_of, width_in, value_slots}
+use Rattle.c_machine.specs.Bounds.{sizes_of, Fits, FitsNext, width_in}
+use Rattle.c_meaning.specs.Widths.{width_of, value_slots}
 use Rattle.c_machine.specs.Within.{longest_name, measure, AreWithin, FallsTo}
 use Rattle.c_machine.proofs.Fitting.{tasks_within, slots_within}
 use Rattle.c_machine.proofs.Starting.{functions_small}

@@ -8,7 +8,8 @@ use Rattle.c_syntax.specs.declared.program.CVar.{CVar}
 use Rattle.c_syntax.specs.Kinds.{same_variable}
 use Rattle.c_syntax.specs.View.{func_of}
 use Rattle.c_meaning.specs.World as model
-use Rattle.c_machine.specs.Machine.{value_under, with_value_under, names_of, State, vars_in, with_slot}
+use Rattle.c_machine.specs.Machine.{value_under, with_value_under, State, vars_in, with_slot}
+use Rattle.c_meaning.specs.Widths.{names_of}
 use Rattle.c_values.specs.declared.value.Value.{Value}
 use Rattle.c_values.specs.declared.value.Value.TheVariants.{Number, Reference}
 use Rattle.c_values.specs.declared.vars.Vars.{Vars as Frame}

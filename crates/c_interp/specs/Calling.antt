@@ -6,7 +6,8 @@ use Rattle.c_syntax.specs.C.{Arg}
 use Rattle.c_meaning.specs.World.{Vars}
 use Rattle.c_meaning.specs.Values.{arg_values}
 use Rattle.c_meaning.specs.Run.{Setup, Numbered, depth_in, has_room}
-use Rattle.c_machine.specs.Machine.{value_under, names_of}
+use Rattle.c_machine.specs.Machine.{value_under}
+use Rattle.c_meaning.specs.Widths.{names_of}
 use Rattle.c_values.specs.declared.value.Value.{Value}
 use Rattle.c_values.specs.Shown.{value_view, shown_slots, AreMadeSlots}
 use Rattle.c_interp.specs.declared.rules.Found.{Found}

@@ -9,7 +9,8 @@ use Rattle.c_meaning.specs.Run.{main_of, c_run}
 use Rattle.c_machine.specs.Machine as m
 use Rattle.c_machine.specs.Machine.{IsDeclared}
 use Rattle.c_machine.specs.Laws.{LeadsTo}
-use Rattle.c_machine.specs.Bounds.{tall_of, value_slots, block_cells}
+use Rattle.c_machine.specs.Bounds.{tall_of}
+use Rattle.c_meaning.specs.Widths.{value_slots, block_cells}
 use Rattle.c_machine.specs.Within.{longest_name}
 use Rattle.c_memory.specs.Shown.{cells_of}
 use Rattle.c_values.specs.declared.value.Value.{Value}

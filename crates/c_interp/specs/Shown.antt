@@ -7,8 +7,9 @@ use Rattle.c_syntax.specs.C.{Stmt}
 use Rattle.c_meaning.specs.World as model
 use Rattle.c_meaning.specs.Run.{Setup, count_in_stmt}
 use Rattle.c_machine.specs.Machine as m
-use Rattle.c_machine.specs.Machine.{State, Conf, Next, names_of}
-use Rattle.c_machine.specs.Bounds.{sizes_of, Fits, cells_in_stmt, tall_of, value_slots, block_cells}
+use Rattle.c_machine.specs.Machine.{State, Conf, Next}
+use Rattle.c_meaning.specs.Widths.{names_of, cells_in_stmt, value_slots, block_cells}
+use Rattle.c_machine.specs.Bounds.{sizes_of, Fits, tall_of}
 use Rattle.c_machine.specs.Within.{name_in_stmt, AreWithin, longest_name}
 use Rattle.c_memory.specs.Shown.{cells_of}
 use Rattle.c_values.specs.declared.value.Value.{Value}

@@ -5,7 +5,8 @@ use Rattle.c_syntax.specs.declared.program.CProgram.{CProgram}
 use Rattle.c_syntax.specs.View.{program_of}
 use Rattle.c_meaning.specs.World.{Ran, event_text}
 use Rattle.c_meaning.specs.Run.{c_run}
-use Rattle.c_machine.specs.Bounds.{tall_of, value_slots, block_cells}
+use Rattle.c_machine.specs.Bounds.{tall_of}
+use Rattle.c_meaning.specs.Widths.{value_slots, block_cells}
 use Rattle.c_machine.specs.Within.{longest_name}
 use Rattle.c_memory.specs.Shown.{cells_of}
 use Rattle.c_primitives.specs.Start.{AreNew}

@@ -4,7 +4,8 @@ ghost use Rattle.std.specs.Prelude.{◌≡◌, ◌<◌, ◌≤◌, ◌+◌, ◌+
 ghost use Rattle.c_syntax.specs.View.{func_of};
 ghost use Rattle.c_values.specs.Shown.{value_view, names_in};
 ghost use Rattle.c_values.specs.Places.{place_in};
-ghost use Rattle.c_machine.specs.Machine.{names_of, with_slot};
+ghost use Rattle.c_machine.specs.Machine.{with_slot};
+ghost use Rattle.c_meaning.specs.Widths.{names_of};
 ghost use Rattle.c_meaning.specs.World as model;
 
 use c_syntax::{CFunc, CVar};

@@ -2,9 +2,10 @@
 
 ghost use Rattle.std.specs.Prelude.{◌≡◌, ◌<◌, ◌≤◌, ◌↔◌, None, Some, IfOk, IfNone, IfSome};
 ghost use Rattle.vlt_base.specs.Limits.{limit_of};
+ghost use Rattle.vlt_base.specs.declared.limits.TheConstants as limits;
 ghost use Rattle.vlt_numbers.specs.HostAnswers.{lists_of};
 ghost use Rattle.c_syntax.specs.View.{program_of};
-ghost use Rattle.c_machine.specs.Bounds.{slots_needed};
+ghost use Rattle.c_meaning.specs.Widths.{slots_needed};
 ghost use Rattle.c_interp.specs.Halting.{outcome_of, StopsAs};
 ghost use Rattle.c_machine.specs.Machine.{IsRunnable};
 
@@ -46,7 +47,7 @@ impl<'a> CMachine<'a> {
         ensures budgets { IfOk result (λ m. budgets_of m ≡ b) }
         ensures started { IfOk result (λ m. stop_of m ≡ None) }
         ensures too_wide { (result ≡ Err OpenError.TooWide) ↔
-            (limit_of 13 < slots_needed (program_of c.now) b.depth b.heap) }
+            (limit_of limits.VALUE_SLOTS < slots_needed (program_of c.now) b.depth b.heap) }
     {
         if is_too_wide(c, b.depth, b.heap) {
             return Err(OpenError::TooWide);

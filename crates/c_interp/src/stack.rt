@@ -2,6 +2,7 @@
 
 ghost use Rattle.std.specs.Prelude.{◌≡◌, ◌≤◌, ℕ, List, Some, None, vec_capacity};
 ghost use Rattle.vlt_rings.specs.Things.{Things};
+ghost use Rattle.c_syntax.specs.declared.rules.TheConstants as rule;
 ghost use Rattle.c_meaning.specs.World as model;
 ghost use Rattle.c_meaning.specs.Primitives.{Effect};
 ghost use Rattle.c_machine.specs.Machine as m;
@@ -17,16 +18,14 @@ use crate::frames::Frames;
 use crate::stop::{CStop, stop_at};
 use crate::task::{Caller, Task};
 use c_primitives::Halt;
+use c_syntax::rules::NO_VALUE;
 use c_syntax::{CResult, CVar};
 use c_values::Value;
 use vlt_steps::{Stop, put};
 
-/// The rule for a value that isn't given, and for the end of a function that is to give one.
-const NO_VALUE: u8 = 6;
-
-/// A stop by rule 6.
+/// A stop by a value that isn't given.
 pub fn no_value(n: u32) -> Option<CStop>
-    ensures { result ≡ Some (CStop.Undefined 6 n) }
+    ensures { result ≡ Some (CStop.Undefined rule.NO_VALUE n) }
 {
     Some(CStop::Undefined {
         rule: NO_VALUE,

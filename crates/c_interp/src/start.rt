@@ -4,7 +4,7 @@ ghost use Rattle.std.specs.Prelude.{◌≡◌, ◌≤◌, ◌+◌, ◌*◌, IfOk
 ghost use Rattle.vlt_numbers.specs.HostAnswers.{lists_of};
 ghost use Rattle.c_syntax.specs.View.{program_of};
 ghost use Rattle.c_meaning.specs.Run.{c_run};
-ghost use Rattle.c_machine.specs.Bounds as bounds;
+ghost use Rattle.c_meaning.specs.Widths as widths;
 ghost use Rattle.c_machine.specs.Bounds.{tall_of};
 ghost use Rattle.c_machine.specs.Machine.{IsRunnable};
 ghost use Rattle.c_interp.specs.Start.{IsStart, IsSet, EndsAs};
@@ -16,6 +16,7 @@ use crate::task::Task;
 use c_machine::{block_cells, longest_name, tall, value_slots};
 use c_primitives::{Tables, World};
 use c_syntax::CProgram;
+use c_syntax::rules::NO_VALUE;
 use c_values::Value;
 use std::alloc::Global;
 use vlt_base::{Budgets, Memory};
@@ -34,7 +35,7 @@ pub struct Start<'a> {
 
 /// How many cells a block can have.
 fn cell_room(heap: u32, c: &CProgram) -> Option<u32>
-    ensures { IfSome result (λ n. 1 ≤ heap → bounds.block_cells (program_of c.now) ≤ n) }
+    ensures { IfSome result (λ n. 1 ≤ heap → widths.block_cells (program_of c.now) ≤ n) }
 {
     if heap == 0 {
         return Some(0);
@@ -44,7 +45,7 @@ fn cell_room(heap: u32, c: &CProgram) -> Option<u32>
 
 /// How many values all frames can have, and one more.
 fn value_room(depth: u32, c: &CProgram) -> Option<usize>
-    ensures { IfSome result (λ n. (depth + 1) * bounds.value_slots (program_of c.now) ≤ n) }
+    ensures { IfSome result (λ n. (depth + 1) * widths.value_slots (program_of c.now) ≤ n) }
 {
     let all = (u128::from(depth) + 1).checked_mul(value_slots(c))?;
     usize::try_from(all).ok()
@@ -105,7 +106,7 @@ pub fn run_program<K: Sink>(
     let Some(main) = rules.main() else {
         return Ended {
             stop: CStop::Undefined {
-                rule: 6,
+                rule: NO_VALUE,
                 statement: rules.count,
             },
             fuel,

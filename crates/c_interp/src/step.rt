@@ -22,13 +22,11 @@ use crate::stop::CStop;
 use crate::task::Task;
 use c_machine::{list_count, stmt_count};
 use c_primitives::World;
+use c_syntax::rules::UNSET;
 use c_syntax::{CExpr, CStmt};
 use c_values::{Value, eval};
 use vlt_io::Sink;
 use vlt_steps::{Stop, put};
-
-/// The rule for a value of the other type.
-const OTHER_TYPE: u8 = 5;
 
 /// The number of a condition.
 fn condition(e: &CExpr, frames: &Frames, world: &World) -> Result<i64, u8>
@@ -40,7 +38,7 @@ fn condition(e: &CExpr, frames: &Frames, world: &World) -> Result<i64, u8>
 {
     match eval(e, frames.vars(), &world.blocks) {
         Ok(Value::Number(z)) => Ok(z),
-        Ok(Value::Reference(_)) => Err(OTHER_TYPE),
+        Ok(Value::Reference(_)) => Err(UNSET),
         Err(rule) => Err(rule),
     }
 }

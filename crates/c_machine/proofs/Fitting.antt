@@ -17,7 +17,8 @@ use Rattle.c_meaning.specs.Values.{arg_values}
 use Rattle.c_meaning.specs.Primitives.{Effect, gives, breaks_rule, ends}
 use Rattle.c_meaning.specs.Run.{Setup, Numbered, count_in_stmt, count_in, function_of, depth_in, has_room, can_call}
 use Rattle.c_machine.specs.Machine.{with_value_under, first_values, Task, list, again, back, bottom, State, Next, stops, on, vars_in, frame_in, with_world, with_slot, after_receiving, after, with_found, depth_out, caller_state, leave, break_to, continue_to, body_end, spend, callee_state, caller_of, enter, call_found, does_call, act, move_of}
-use Rattle.c_machine.specs.Bounds.{cells_in, cells_in_stmt, need, inner, width_of, need_of, cells_of, Sizes, both_widths, width_in, room_in, one_unless, reach, frames, FrameFits, CallersFit, Fits, FitsNext}
+use Rattle.c_machine.specs.Bounds.{need, inner, need_of, Sizes, both_widths, width_in, room_in, one_unless, reach, frames, FrameFits, CallersFit, Fits, FitsNext}
+use Rattle.c_meaning.specs.Widths.{cells_in, cells_in_stmt, width_of, cells_of}
 use Rattle.c_machine.proofs.Names.{first_long}
 use Rattle.c_machine.proofs.Leading.{args_long}
 

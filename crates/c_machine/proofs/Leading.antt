@@ -15,7 +15,8 @@ use Rattle.c_meaning.specs.Values.{◌>>=◌, value_of, arg_value, arg_values}
 use Rattle.c_meaning.specs.Primitives.{Effect, gives, breaks_rule, ends, set_does, put_does, primitive_does}
 use Rattle.c_meaning.specs.Run as run
 use Rattle.c_meaning.specs.Run.{Step, Frame, Setup, Meaning, Numbered, count_in_stmt, count_in, count_of, function_of, find_in, bound, depth_in, has_room, can_call, condition, less, does_stmt, does_stmts, ran_of, first_frame, count_in_all}
-use Rattle.c_machine.specs.Machine.{value_under, with_value_under, names_of, first_values, Task, list, again, back, bottom, State, Next, goes, stops, on, vars_in, frame_in, after_receiving, after, with_found, depth_out, caller_state, leave, break_to, continue_to, body_end, spend, callee_state, caller_of, enter, call_found, does_call, returns, act, move_of, moves, first_conf, DeclaresTarget, DeclaresStmt, Declares, AllDeclare, IsDeclared}
+use Rattle.c_machine.specs.Machine.{value_under, with_value_under, first_values, Task, list, again, back, bottom, State, Next, goes, stops, on, vars_in, frame_in, after_receiving, after, with_found, depth_out, caller_state, leave, break_to, continue_to, body_end, spend, callee_state, caller_of, enter, call_found, does_call, returns, act, move_of, moves, first_conf, DeclaresTarget, DeclaresStmt, Declares, AllDeclare, IsDeclared}
+use Rattle.c_meaning.specs.Widths.{names_of}
 use Rattle.c_machine.proofs.Names.{looked_filed, filed_long, first_looked, first_long, drop_top, take_top}
 use Rattle.c_machine.proofs.Keeping.{KeepsEffect, primitive_keeps, set_keeps, put_keeps}
 

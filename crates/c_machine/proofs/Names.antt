@@ -9,7 +9,8 @@ use Rattle.c_syntax.specs.Kinds.{same_bool, same_variable, is_one_of}
 use Rattle.c_meaning.specs.World.{Value}
 use Rattle.c_meaning.specs.Run.{bound}
 use Rattle.c_syntax.specs.C.{Func}
-use Rattle.c_machine.specs.Machine.{value_under, with_value_under, names_of, first_values}
+use Rattle.c_machine.specs.Machine.{value_under, with_value_under, first_values}
+use Rattle.c_meaning.specs.Widths.{names_of}
 
 -- ---- equal names
 

@@ -5,8 +5,9 @@ use Rattle.c_syntax.specs.declared.program.CName.{CName}
 use Rattle.c_syntax.specs.C.{Func, Program}
 use Rattle.c_meaning.specs.World.{World}
 use Rattle.c_meaning.specs.Run.{Numbered, count_in, count_in_all, function_of, find_in, main_of, number_at}
-use Rattle.c_machine.specs.Machine.{names_of, first_conf, Declares, AllDeclare, IsDeclared}
-use Rattle.c_machine.specs.Bounds.{most, width_of, need_of, cells_of, Sizes, sizes_of, Fits}
+use Rattle.c_machine.specs.Machine.{first_conf, Declares, AllDeclare, IsDeclared}
+use Rattle.c_meaning.specs.Widths.{names_of, most, width_of, cells_of}
+use Rattle.c_machine.specs.Bounds.{need_of, Sizes, sizes_of, Fits}
 use Rattle.c_machine.proofs.Names.{first_long}
 use Rattle.c_machine.proofs.Fitting.{IsSmallFunc}
 

@@ -13,7 +13,7 @@ use Rattle.c_meaning.specs.World.{Value}
 use Rattle.c_meaning.specs.Primitives.{Effect, gives, breaks_rule, ends}
 use Rattle.c_meaning.specs.Run.{Setup, Numbered, count_in_stmt, count_in, count_in_all, count_of, find_in, function_of, main_of, number_at, has_room, can_call}
 use Rattle.c_machine.specs.Machine.{Task, list, again, back, bottom, State, Next, goes, stops, vars_in, frame_in, with_world, after_receiving, after, with_found, caller_state, leave, break_to, continue_to, body_end, spend, enter, call_found, does_call, act, move_of}
-use Rattle.c_machine.specs.Bounds.{most}
+use Rattle.c_meaning.specs.Widths.{most}
 use Rattle.c_machine.specs.Within.{name_in_stmt, name_of, longest_name, AreWithin, weight, measure, FallsTo}
 use Rattle.c_machine.proofs.Keeping.{KeepsEffect, primitive_keeps, set_keeps, put_keeps}
 

@@ -1,33 +1,9 @@
--- How many tasks, values and cells a run can need.
-use Rattle.std.specs.Prelude.{◌≤◌, ℕ, ◌+◌, ◌*◌, max, Bool, true, false, List, [], ◌∷◌, length, Option, Some, None}
-use Rattle.c_syntax.specs.declared.program.CPrim.TheVariants as prim
+-- How many tasks a run can need, and what always fits.
+use Rattle.std.specs.Prelude.{◌≤◌, ℕ, ◌+◌, ◌*◌, max, Bool, true, false, List, [], ◌∷◌, length}
 use Rattle.c_syntax.specs.C as c
-use Rattle.c_syntax.specs.C.{Call, Stmt, Stmts, Func, Program}
-use Rattle.c_meaning.specs.Primitives.{asked_cells}
-use Rattle.c_machine.specs.Machine.{Task, list, again, back, bottom, State, Next, goes, stops, names_of, depth_out}
-
--- ---- the cells that a block may be asked to have
-
-abbrev pub sum_asked : Option (ℕ × ℕ) → ℕ
-sum_asked None = 0
-sum_asked (Some q) = q.0 + q.1
-
-abbrev pub cells_in_call : Call → ℕ
-cells_in_call (c.primitive prim.New xs) = sum_asked (asked_cells xs)
-cells_in_call _ = 0
-
-abbrev mutual
-  pub cells_in_stmt : Stmt → ℕ
-  cells_in_stmt (c.set_call v f) = cells_in_call f
-  cells_in_stmt (c.call f) = cells_in_call f
-  cells_in_stmt (c.when e xs) = cells_in xs
-  cells_in_stmt (c.choose e xs ys) = max (cells_in xs) (cells_in ys)
-  cells_in_stmt (c.loop xs) = cells_in xs
-  cells_in_stmt _ = 0
-
-  pub cells_in : Stmts → ℕ
-  cells_in c.done = 0
-  cells_in (c.next x xs) = max (cells_in_stmt x) (cells_in xs)
+use Rattle.c_syntax.specs.C.{Stmt, Stmts, Func, Program}
+use Rattle.c_meaning.specs.Widths.{cells_in, most, width_of, block_cells}
+use Rattle.c_machine.specs.Machine.{Task, list, again, back, bottom, State, Next, goes, stops, depth_out}
 
 -- ---- the tasks that statements need, those that are left after them included
 
@@ -44,32 +20,11 @@ abbrev mutual
 
 -- ---- the most of all functions
 
-abbrev pub most : (Func → ℕ) → List Func → ℕ
-most f [] = 0
-most f (x ∷ xs) = max (f x) (most f xs)
-
-abbrev pub width_of : Func → ℕ
-width_of f = length (names_of f)
-
 abbrev pub need_of : Func → ℕ
 need_of f = need f.body
 
-abbrev pub cells_of : Func → ℕ
-cells_of f = cells_in f.body
-
--- the names of the widest function and of the widest glue
-abbrev pub value_slots : Program → ℕ
-value_slots p = most width_of p.fns + most width_of p.glue
-
--- the most cells that one block is asked to have
-abbrev pub block_cells : Program → ℕ
-block_cells p = max (most cells_of p.glue) (most cells_of p.fns)
-
 abbrev pub tall_of : Program → ℕ
 tall_of p = max (most need_of p.glue) (most need_of p.fns)
-
-abbrev pub slots_needed : Program → (depth heap : ℕ) → ℕ
-slots_needed p depth heap = depth * value_slots p + heap * block_cells p
 
 -- ---- what always fits
 

@@ -4,7 +4,8 @@ use Rattle.c_syntax.specs.C.{Program}
 use Rattle.c_meaning.specs.World.{first_world, Ran}
 use Rattle.c_meaning.specs.Run.{Setup, Numbered, main_of, c_run}
 use Rattle.c_machine.specs.Machine.{Task, State, Next, goes, stops, move_of, moves, first_conf, IsDeclared}
-use Rattle.c_machine.specs.Bounds.{sizes_of, tall_of, value_slots, Fits, FitsNext}
+use Rattle.c_machine.specs.Bounds.{sizes_of, tall_of, Fits, FitsNext}
+use Rattle.c_meaning.specs.Widths.{value_slots}
 
 -- so many moves lead to the end of the run
 pub record LeadsTo (r : Setup) (x : Next) (ran : Ran) : Type 0 where

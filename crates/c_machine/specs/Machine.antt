@@ -1,6 +1,7 @@
 -- A machine over a flat table of values and a stack of tasks. It is a tool of the proof of `c_interp`.
 use Rattle.std.specs.Prelude.{◌≡◌, ℕ, zero, suc, ◌+◌, ◌-◌, ◌==◌, Bool, true, false, IsTrue, if◌then◌else◌, List, [], ◌∷◌, ◌++◌, map, length, take, drop, replicate, Option, Some, None, Result, Ok, Err}
 use Rattle.vlt_ops.specs.Operator.{is_true}
+use Rattle.c_syntax.specs.declared.rules.TheConstants as rule
 use Rattle.c_syntax.specs.declared.program.CResult.{CResult}
 use Rattle.c_syntax.specs.declared.program.CResult.TheVariants as result
 use Rattle.c_syntax.specs.declared.program.CVar.{CVar}
@@ -10,6 +11,7 @@ use Rattle.c_syntax.specs.Kinds.{same_variable, is_one_of}
 use Rattle.c_meaning.specs.World.{Value, World, Vars, Outcome, done, fuel_end, depth_end, undefined}
 use Rattle.c_meaning.specs.Values.{value_of, arg_values}
 use Rattle.c_meaning.specs.Primitives.{Effect, gives, breaks_rule, ends, set_does, put_does, primitive_does}
+use Rattle.c_meaning.specs.Widths.{names_of}
 use Rattle.c_meaning.specs.Run.{count_in_stmt, count_in, count_of, Numbered, function_of, main_of, Frame, Setup, has_room, depth_in, can_call, condition}
 
 -- ---- the values of a frame, one for each name
@@ -23,9 +25,6 @@ abbrev pub with_value_under : List CVar → List (Option Value) → CVar → Val
 with_value_under [] xs u a = xs
 with_value_under (v ∷ vs) [] u a = []
 with_value_under (v ∷ vs) (x ∷ xs) u a = if same_variable u v then Some a ∷ xs else x ∷ with_value_under vs xs u a
-
-abbrev pub names_of : Func → List CVar
-names_of f = f.params ++ f.vars
 
 -- arguments, and variables that aren't set
 abbrev pub first_values : Func → List Value → List (Option Value)
@@ -89,7 +88,7 @@ with_slot v a s = record s { slots = take s.base s.slots ++ with_value_under s.n
 
 abbrev pub after_receiving : (n : ℕ) → Option CVar → Option Value → List Task → State → Next
 after_receiving n None a ts s = on ts s
-after_receiving n (Some v) None ts s = stops (undefined 6 n) s.world
+after_receiving n (Some v) None ts s = stops (undefined rule.NO_VALUE n) s.world
 after_receiving n (Some v) (Some a) ts s = on ts (with_slot v a s)
 
 unfoldable pub after : (n : ℕ) → Option CVar → Effect → List Task → State → Next
@@ -124,23 +123,23 @@ leave a (back k ∷ ts) s = after_receiving k.n k.target a ts (caller_state k s)
 leave a (bottom g ∷ ts) s = stops done s.world
 
 abbrev pub break_to : (count : ℕ) → List Task → State → Next
-break_to count [] s = stops (undefined 6 count) s.world
+break_to count [] s = stops (undefined rule.NO_VALUE count) s.world
 break_to count (list n ss ∷ ts) s = break_to count ts s
 break_to count (again n b ∷ ts) s = on ts s
-break_to count (back k ∷ ts) s = stops (undefined 6 count) s.world
-break_to count (bottom g ∷ ts) s = stops (undefined 6 count) s.world
+break_to count (back k ∷ ts) s = stops (undefined rule.NO_VALUE count) s.world
+break_to count (bottom g ∷ ts) s = stops (undefined rule.NO_VALUE count) s.world
 
 abbrev pub continue_to : (count : ℕ) → List Task → State → Next
-continue_to count [] s = stops (undefined 6 count) s.world
+continue_to count [] s = stops (undefined rule.NO_VALUE count) s.world
 continue_to count (list n ss ∷ ts) s = continue_to count ts s
 continue_to count (again n b ∷ ts) s = on (again n b ∷ ts) s
-continue_to count (back k ∷ ts) s = stops (undefined 6 count) s.world
-continue_to count (bottom g ∷ ts) s = stops (undefined 6 count) s.world
+continue_to count (back k ∷ ts) s = stops (undefined rule.NO_VALUE count) s.world
+continue_to count (bottom g ∷ ts) s = stops (undefined rule.NO_VALUE count) s.world
 
 -- the end of a body
 abbrev pub body_end : (count : ℕ) → CResult → Option Value → List Task → State → Next
 body_end count result.Nothing a ts s = leave a ts s
-body_end count _ a ts s = stops (undefined 6 count) s.world
+body_end count _ a ts s = stops (undefined rule.NO_VALUE count) s.world
 
 unfoldable pub spend : State → (State → Next) → Next
 spend s go =
@@ -169,11 +168,11 @@ enter r n target glue g values ts s =
     else stops depth_end s.world)
 
 unfoldable pub call_found : Setup → (n : ℕ) → Option CVar → (glue : Bool) → List Arg → Option Numbered → List Task → State → Next
-call_found r n target glue xs None ts s = stops (undefined 6 n) s.world
+call_found r n target glue xs None ts s = stops (undefined rule.NO_VALUE n) s.world
 call_found r n target glue xs (Some g) ts s =
     if can_call glue g.func xs (frame_in s) then
     with_found n (arg_values xs (vars_in s)) s (λ values. enter r n target glue g values ts s)
-    else stops (undefined 6 n) s.world
+    else stops (undefined rule.NO_VALUE n) s.world
 
 abbrev pub does_call : Setup → (n : ℕ) → Option CVar → Call → List Task → State → Next
 does_call r n target (c.primitive p xs) ts s = after n target (primitive_does r.heap p xs (vars_in s) s.world) ts s

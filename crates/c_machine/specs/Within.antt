@@ -5,7 +5,7 @@ use Rattle.c_syntax.specs.C as c
 use Rattle.c_syntax.specs.C.{Arg, Call, Stmt, Stmts, Func, Program}
 use Rattle.c_meaning.specs.Run.{count_in}
 use Rattle.c_machine.specs.Machine.{Task, list, again, back, bottom, Next, goes, stops}
-use Rattle.c_machine.specs.Bounds.{most}
+use Rattle.c_meaning.specs.Widths.{most}
 
 -- ---- the names of externals
 

@@ -3,7 +3,7 @@
 ghost use Rattle.std.specs.Prelude.{◌≡◌, ◌∷◌, map, min};
 ghost use Rattle.c_syntax.specs.View.{stmt_of, stmts_of, call_of, arg_of, func_of, program_of};
 ghost use Rattle.c_meaning.specs.Run.{count_in, count_in_stmt};
-ghost use Rattle.c_machine.specs.Bounds.{most};
+ghost use Rattle.c_meaning.specs.Widths.{most};
 ghost use Rattle.c_machine.specs.Within.{length_of_name, name_in_call, name_in_stmt, name_in, name_of};
 ghost use Rattle.c_machine.specs.Within as within;
 

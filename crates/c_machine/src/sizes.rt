@@ -2,12 +2,14 @@
 
 ghost use Rattle.std.specs.Prelude.{◌≡◌, ◌<◌, ◌≤◌, ◌↔◌, ◌^◌, ◌+◌, IsTrue, IfSome, map, ℕ};
 ghost use Rattle.vlt_base.specs.Limits.{limit_of};
+ghost use Rattle.vlt_base.specs.declared.limits.TheConstants as limits;
 ghost use Rattle.c_syntax.specs.View.{stmt_of, stmts_of, call_of, func_of, program_of};
-ghost use Rattle.c_machine.specs.Bounds.{most, width_of, need_of, cells_of, cells_in, cells_in_stmt, cells_in_call, need, inner, slots_needed, tall_of};
-ghost use Rattle.c_machine.specs.Bounds as bounds;
+ghost use Rattle.c_machine.specs.Bounds.{need_of, need, inner, tall_of};
+ghost use Rattle.c_meaning.specs.Widths.{most, width_of, cells_of, cells_in, cells_in_stmt, cells_in_call, slots_needed};
+ghost use Rattle.c_meaning.specs.Widths as widths;
 
 use c_syntax::{CArg, CCall, CFunc, CPrim, CProgram, CStmt};
-use vlt_base::limit;
+use vlt_base::{VALUE_SLOTS, limit};
 
 /// The cells that a call asks for.
 fn call_cells(call: &CCall) -> u128
@@ -42,7 +44,7 @@ fn widest(fns: &[CFunc]) -> u128
 
 /// The names of the widest function and of the widest glue together.
 pub fn value_slots(p: &CProgram) -> u128
-    ensures { result ≡ bounds.value_slots (program_of p.now) }
+    ensures { result ≡ widths.value_slots (program_of p.now) }
 {
     widest(p.fns.as_slice()) + widest(p.glue.as_slice())
 }
@@ -87,18 +89,19 @@ fn most_cells(fns: &[CFunc]) -> u128
 
 /// The most cells that one block is asked to have.
 pub fn block_cells(p: &CProgram) -> u128
-    ensures { result ≡ bounds.block_cells (program_of p.now) }
+    ensures { result ≡ widths.block_cells (program_of p.now) }
 {
     most_cells(p.glue.as_slice()).max(most_cells(p.fns.as_slice()))
 }
 
-/// Whether so many frames and blocks could have more values than limit 13 allows.
+/// Whether so many frames and blocks could have more values than a machine may have.
 pub fn is_too_wide(p: &CProgram, depth: u32, heap: u32) -> bool
-    ensures { IsTrue result ↔ (limit_of 13 < slots_needed (program_of p.now) depth heap) }
+    ensures { IsTrue result ↔
+        (limit_of limits.VALUE_SLOTS < slots_needed (program_of p.now) depth heap) }
 {
     let frames = u128::from(depth).saturating_mul(value_slots(p));
     let blocks = u128::from(heap).saturating_mul(block_cells(p));
-    frames.saturating_add(blocks) > u128::from(limit(13))
+    frames.saturating_add(blocks) > u128::from(limit(VALUE_SLOTS))
 }
 
 /// The tasks that a statement needs, those that are left after it included; none where they can't be counted.

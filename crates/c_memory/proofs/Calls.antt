@@ -58,32 +58,32 @@ cell_within b c i sound live l =
 -- the rule for a cell that isn't there or is unset
 pub number_past : (b : Blocks) (ts : Things) (p : Option Ref) (c i : ℕ) → IsFoundAt b ts p c → (shape_at b.shapes.items c).numbers ≤ i → model.read_number (blocks_of b ts) (number_of p) i ≡ Err 2
 number_past b ts p c i f l =
-    ap (λ x. model.number_in x i) (found_live b ts p c f) ∙ ap model.set_or_2 (get_past _ _ i (subst (λ d. (shape_at b.shapes.items d).numbers ≤ i) (sym f.place) l))
+    ap (λ x. model.number_in x i) (found_live b ts p c f) ∙ ap model.or_no_cell (get_past _ _ i (subst (λ d. (shape_at b.shapes.items d).numbers ≤ i) (sym f.place) l))
 
 pub number_read : (b : Blocks) (ts : Things) (p : Option Ref) (c i : ℕ) → IsFoundAt b ts p c → i < (shape_at b.shapes.items c).numbers
-    → model.read_number (blocks_of b ts) (number_of p) i ≡ model.set_or_2 (Some (number_in (slice_get b.cells.items (c * b.width + i))))
+    → model.read_number (blocks_of b ts) (number_of p) i ≡ model.or_no_cell (Some (number_in (slice_get b.cells.items (c * b.width + i))))
 number_read b ts p c i f l =
-    ap (λ x. model.number_in x i) (found_live b ts p c f) ∙ ap model.set_or_2 (get_table _ _ i (subst (λ d. i < (shape_at b.shapes.items d).numbers) (sym f.place) l) ∙ ap (λ d. Some (number_in (slice_get b.cells.items (d * b.width + i)))) f.place)
+    ap (λ x. model.number_in x i) (found_live b ts p c f) ∙ ap model.or_no_cell (get_table _ _ i (subst (λ d. i < (shape_at b.shapes.items d).numbers) (sym f.place) l) ∙ ap (λ d. Some (number_in (slice_get b.cells.items (d * b.width + i)))) f.place)
 
 pub reference_past : (b : Blocks) (ts : Things) (p : Option Ref) (c i : ℕ) → IsFoundAt b ts p c → (shape_at b.shapes.items c).references ≤ i → model.read_reference (blocks_of b ts) (number_of p) i ≡ Err 2
 reference_past b ts p c i f l =
-    ap (λ x. model.reference_in x i) (found_live b ts p c f) ∙ ap model.set_or_2 (get_past _ _ i (subst (λ d. (shape_at b.shapes.items d).references ≤ i) (sym f.place) l))
+    ap (λ x. model.reference_in x i) (found_live b ts p c f) ∙ ap model.or_no_cell (get_past _ _ i (subst (λ d. (shape_at b.shapes.items d).references ≤ i) (sym f.place) l))
 
 pub reference_read : (b : Blocks) (ts : Things) (p : Option Ref) (c i : ℕ) → IsFoundAt b ts p c → i < (shape_at b.shapes.items c).references
-    → model.read_reference (blocks_of b ts) (number_of p) i ≡ model.set_or_2 (Some (reference_in (slice_get b.cells.items (c * b.width + (shape_at b.shapes.items c).numbers + i))))
+    → model.read_reference (blocks_of b ts) (number_of p) i ≡ model.or_no_cell (Some (reference_in (slice_get b.cells.items (c * b.width + (shape_at b.shapes.items c).numbers + i))))
 reference_read b ts p c i f l =
     ap (λ x. model.reference_in x i) (found_live b ts p c f)
-    ∙ ap model.set_or_2 (get_table _ _ i (subst (λ d. i < (shape_at b.shapes.items d).references) (sym f.place) l) ∙ ap (λ d. Some (reference_in (slice_get b.cells.items (d * b.width + (shape_at b.shapes.items d).numbers + i)))) f.place)
+    ∙ ap model.or_no_cell (get_table _ _ i (subst (λ d. i < (shape_at b.shapes.items d).references) (sym f.place) l) ∙ ap (λ d. Some (reference_in (slice_get b.cells.items (d * b.width + (shape_at b.shapes.items d).numbers + i)))) f.place)
 
 pub number_found : (b : Blocks) (ts : Things) (p : Option Ref) (c i k : ℕ) (z : ℤ) → IsFoundAt b ts p c → i < (shape_at b.shapes.items c).numbers → k ≡ c * b.width + i → slice_get b.cells.items k ≡ Some (Number z)
     → Ok z ≡ model.read_number (blocks_of b ts) (number_of p) i
-number_found b ts p c i k z f l is at = sym (number_read b ts p c i f l ∙ ap (λ x. model.set_or_2 (Some (number_in x))) (ap (slice_get b.cells.items) (sym is) ∙ at))
+number_found b ts p c i k z f l is at = sym (number_read b ts p c i f l ∙ ap (λ x. model.or_no_cell (Some (number_in x))) (ap (slice_get b.cells.items) (sym is) ∙ at))
 
 pub number_unset : (b : Blocks) (ts : Things) (p : Option Ref) (c i k : ℕ) (x : Cell) → IsFoundAt b ts p c → i < (shape_at b.shapes.items c).numbers → k ≡ c * b.width + i → slice_get b.cells.items k ≡ Some x → ((z : ℤ) → x ≡ Number z → ⊥)
     → Err 2 ≡ model.read_number (blocks_of b ts) (number_of p) i
-number_unset b ts p c i k x f l is at not = sym (number_read b ts p c i f l ∙ ap (λ y. model.set_or_2 (Some (number_in y))) (ap (slice_get b.cells.items) (sym is) ∙ at) ∙ by x not)
+number_unset b ts p c i k x f l is at not = sym (number_read b ts p c i f l ∙ ap (λ y. model.or_no_cell (Some (number_in y))) (ap (slice_get b.cells.items) (sym is) ∙ at) ∙ by x not)
   where
-    by : (x : Cell) → ((z : ℤ) → x ≡ Number z → ⊥) → model.set_or_2 (Some (number_in (Some x))) ≡ Err 2
+    by : (x : Cell) → ((z : ℤ) → x ≡ Number z → ⊥) → model.or_no_cell (Some (number_in (Some x))) ≡ Err 2
     by Unset h = refl
     by (Number z) h = absurd (h z refl)
     by (Reference r) h = refl
@@ -91,14 +91,14 @@ number_unset b ts p c i k x f l is at not = sym (number_read b ts p c i f l ∙ 
 pub reference_found : (b : Blocks) (ts : Things) (p : Option Ref) (c i k : ℕ) (r : Option Ref) → Holds b ts → IsFoundAt b ts p c → i < (shape_at b.shapes.items c).references → k ≡ c * b.width + (shape_at b.shapes.items c).numbers + i
     → slice_get b.cells.items k ≡ Some (Reference r) → IsRead ts (Ok r) (model.read_reference (blocks_of b ts) (number_of p) i)
 reference_found b ts p c i k r holds f l is at =
-    subst (IsRead ts (Ok r)) (sym (reference_read b ts p c i f l ∙ ap (λ x. model.set_or_2 (Some (reference_in x))) (ap (slice_get b.cells.items) (sym is) ∙ at))) (refl, holds.made k r at)
+    subst (IsRead ts (Ok r)) (sym (reference_read b ts p c i f l ∙ ap (λ x. model.or_no_cell (Some (reference_in x))) (ap (slice_get b.cells.items) (sym is) ∙ at))) (refl, holds.made k r at)
 
 pub reference_unset : (b : Blocks) (ts : Things) (p : Option Ref) (c i k : ℕ) (x : Cell) → IsFoundAt b ts p c → i < (shape_at b.shapes.items c).references → k ≡ c * b.width + (shape_at b.shapes.items c).numbers + i
     → slice_get b.cells.items k ≡ Some x → ((r : Option Ref) → x ≡ Reference r → ⊥) → IsRead ts (Err 2) (model.read_reference (blocks_of b ts) (number_of p) i)
 reference_unset b ts p c i k x f l is at not =
-    subst (IsRead ts (Err 2)) (sym (reference_read b ts p c i f l ∙ ap (λ y. model.set_or_2 (Some (reference_in y))) (ap (slice_get b.cells.items) (sym is) ∙ at) ∙ by x not)) refl
+    subst (IsRead ts (Err 2)) (sym (reference_read b ts p c i f l ∙ ap (λ y. model.or_no_cell (Some (reference_in y))) (ap (slice_get b.cells.items) (sym is) ∙ at) ∙ by x not)) refl
   where
-    by : (x : Cell) → ((r : Option Ref) → x ≡ Reference r → ⊥) → model.set_or_2 (Some (reference_in (Some x))) ≡ Err 2
+    by : (x : Cell) → ((r : Option Ref) → x ≡ Reference r → ⊥) → model.or_no_cell (Some (reference_in (Some x))) ≡ Err 2
     by Unset h = refl
     by (Number z) h = refl
     by (Reference r) h = absurd (h r refl)
@@ -107,13 +107,13 @@ pub not_read : (b : Blocks) (ts : Things) (p : Option Ref) (c i : ℕ) → IsFou
 not_read b ts p c i f l = subst (IsRead ts (Err 2)) (sym (reference_past b ts p c i f l)) refl
 
 pub parent_found : (b : Blocks) (ts : Things) (p : Option Ref) (c : ℕ) (q : Option (ℕ × ℕ)) → (f : IsFoundAt b ts p c) → rings.IsParentOf ts f.thing q → (r : Ref) → q ≡ Some (r.place, r.number) → IsParent ts (Ok r) (model.parent_of (blocks_of b ts) (number_of p))
-parent_found b ts p c q f parent r is = subst (IsParent ts (Ok r)) (sym (ap (λ x. model.some_or_8 (model.parent_in x)) (found_live b ts p c f) ∙ ap model.some_or_8 now.number)) (refl, now.made)
+parent_found b ts p c q f parent r is = subst (IsParent ts (Ok r)) (sym (ap (λ x. model.some_or_misused (model.parent_in x)) (found_live b ts p c f) ∙ ap model.some_or_misused now.number)) (refl, now.made)
   where
     now : rings.IsParentAt ts f.thing r.place r.number
     now = subst (rings.IsParentOf ts f.thing) is parent
 
 pub no_parent_found : (b : Blocks) (ts : Things) (p : Option Ref) (c : ℕ) → (f : IsFoundAt b ts p c) → rings.IsParentOf ts f.thing None → IsParent ts (Err 8) (model.parent_of (blocks_of b ts) (number_of p))
-no_parent_found b ts p c f none = subst (IsParent ts (Err 8)) (sym (ap (λ x. model.some_or_8 (model.parent_in x)) (found_live b ts p c f) ∙ ap model.some_or_8 none)) refl
+no_parent_found b ts p c f none = subst (IsParent ts (Err 8)) (sym (ap (λ x. model.some_or_misused (model.parent_in x)) (found_live b ts p c f) ∙ ap model.some_or_misused none)) refl
 
 -- ---- writes
 
@@ -309,12 +309,12 @@ pub disowned_is : (old new : Blocks) (ts : Things) (p : Option Ref) (c : ℕ) �
     → ((n : ℕ) (t : Thing) → IsAt ts n t → t.place ≡ c → rings.Holds new.places (slice_set ts n (Some (record t { parent = None })))) → Did ts (Ok tt) (model.blocks_after_disown (blocks_of old ts) (number_of p)) new
 disowned_is old new ts p c f same holds now =
     subst (λ x. Did ts (Ok tt) x new)
-    (sym (ap (model.blocks_after_disown (blocks_of old ts)) f.is ∙ ap (λ x. model.or_8 (model.is_there x) (with_changed_block f.number (with_parent None) (blocks_of old ts))) (live_at old ts f.number f.thing f.at)))
+    (sym (ap (model.blocks_after_disown (blocks_of old ts)) f.is ∙ ap (λ x. model.or_misused (model.is_there x) (with_changed_block f.number (with_parent None) (blocks_of old ts))) (live_at old ts f.number f.thing f.at)))
     (parent_come old new ts p c f None same holds (now f.number f.thing f.at f.place))
 
 pub misused_disown : (b : Blocks) (ts : Things) (p : Option Ref) (n : ℕ) → number_of p ≡ Some n → model.block_at (blocks_of b ts) (number_of p) ≡ None → model.blocks_after_disown (blocks_of b ts) (number_of p) ≡ Err 8
 misused_disown b ts p n is none =
-    ap (model.blocks_after_disown (blocks_of b ts)) is ∙ ap (λ x. model.or_8 (model.is_there x) (with_changed_block n (with_parent None) (blocks_of b ts))) (sym (ap (model.block_at (blocks_of b ts)) is) ∙ none)
+    ap (model.blocks_after_disown (blocks_of b ts)) is ∙ ap (λ x. model.or_misused (model.is_there x) (with_changed_block n (with_parent None) (blocks_of b ts))) (sym (ap (model.block_at (blocks_of b ts)) is) ∙ none)
 
 -- the same place has one number
 same_number : (b : Blocks) (ts : Things) (p q : Option Ref) (c d : ℕ) → Holds b ts → (f : IsFoundAt b ts p c) (g : IsFoundAt b ts q d) → c ≢ d → (f.number == g.number) ≡ false
@@ -336,13 +336,13 @@ one_number b ts p q c d holds f g same = by (equal_or_not f.number g.number)
 
 own_test : (b : Blocks) (ts : Things) (p q : Option Ref) (n m : ℕ) → number_of p ≡ Some n → number_of q ≡ Some m → (x y z : Bool) → model.passes model.is_free (model.block_at (blocks_of b ts) (number_of p)) ≡ x
     → (n == m) ≡ y → model.passes is_root (model.block_at (blocks_of b ts) (number_of q)) ≡ z
-    → model.blocks_after_own (blocks_of b ts) (number_of p) (number_of q) ≡ model.or_8 (x && (not y && z)) (with_changed_block n (with_parent (Some m)) (blocks_of b ts))
+    → model.blocks_after_own (blocks_of b ts) (number_of p) (number_of q) ≡ model.or_misused (x && (not y && z)) (with_changed_block n (with_parent (Some m)) (blocks_of b ts))
 own_test b ts p q n m is_p is_q x y z free same root =
     ap (λ k. model.blocks_after_own (blocks_of b ts) k (number_of q)) is_p ∙ ap (model.blocks_after_own (blocks_of b ts) (Some n)) is_q
-    ∙ ap (λ t. model.or_8 (t && (not (n == m) && model.passes is_root (live_block (blocks_of b ts) m))) (with_changed_block n (with_parent (Some m)) (blocks_of b ts)))
+    ∙ ap (λ t. model.or_misused (t && (not (n == m) && model.passes is_root (live_block (blocks_of b ts) m))) (with_changed_block n (with_parent (Some m)) (blocks_of b ts)))
     (ap (λ k. model.passes model.is_free (model.block_at (blocks_of b ts) k)) (sym is_p) ∙ free)
-    ∙ ap (λ t. model.or_8 (x && (not t && model.passes is_root (live_block (blocks_of b ts) m))) (with_changed_block n (with_parent (Some m)) (blocks_of b ts))) same
-    ∙ ap (λ t. model.or_8 (x && (not y && t)) (with_changed_block n (with_parent (Some m)) (blocks_of b ts)))
+    ∙ ap (λ t. model.or_misused (x && (not t && model.passes is_root (live_block (blocks_of b ts) m))) (with_changed_block n (with_parent (Some m)) (blocks_of b ts))) same
+    ∙ ap (λ t. model.or_misused (x && (not y && t)) (with_changed_block n (with_parent (Some m)) (blocks_of b ts)))
     (ap (λ k. model.passes is_root (model.block_at (blocks_of b ts) k)) (sym is_q) ∙ root)
 
 pub owned_is : (old new : Blocks) (ts : Things) (p q : Option Ref) (c d : ℕ) → IsFoundIf model.is_free old ts p (Some c) → IsFoundIf is_root old ts q (Some d) → c ≢ d → SameTables old new → Holds old ts
@@ -370,11 +370,11 @@ misused_parent b ts p q n is root = by (number_of q) refl
 
     by : (m : Option ℕ) → number_of q ≡ m → model.blocks_after_own (blocks_of b ts) (number_of p) (number_of q) ≡ Err 8
     by None e = ap (λ k. model.blocks_after_own (blocks_of b ts) k (number_of q)) is ∙ ap (model.blocks_after_own (blocks_of b ts) (Some n)) e
-    by (Some m) e = own_test b ts p q n m is e _ (n == m) false refl refl root ∙ ap (λ t. model.or_8 t (with_changed_block n (with_parent (Some m)) (blocks_of b ts))) (never _ (not (n == m)))
+    by (Some m) e = own_test b ts p q n m is e _ (n == m) false refl refl root ∙ ap (λ t. model.or_misused t (with_changed_block n (with_parent (Some m)) (blocks_of b ts))) (never _ (not (n == m)))
 
 pub misused_self : (b : Blocks) (ts : Things) (p q : Option Ref) (c d : ℕ) → Holds b ts → IsFoundAt b ts p c → IsFoundAt b ts q d → c ≡ d → model.blocks_after_own (blocks_of b ts) (number_of p) (number_of q) ≡ Err 8
 misused_self b ts p q c d holds f g same =
-    own_test b ts p q f.number g.number f.is g.is _ true _ refl (one_number b ts p q c d holds f g same) refl ∙ ap (λ t. model.or_8 t (with_changed_block f.number (with_parent (Some g.number)) (blocks_of b ts))) (never _)
+    own_test b ts p q f.number g.number f.is g.is _ true _ refl (one_number b ts p q c d holds f g same) refl ∙ ap (λ t. model.or_misused t (with_changed_block f.number (with_parent (Some g.number)) (blocks_of b ts))) (never _)
   where
     never : (x : Bool) → (x && false) ≡ false
     never true = refl
@@ -386,7 +386,7 @@ pub released_is : (old new : Blocks) (ts : Things) (p : Option Ref) (c : ℕ) �
     → ((n : ℕ) (t : Thing) → IsAt ts n t → t.place ≡ c → rings.AreReleased ts n new.places) → Did ts (Ok tt) (model.blocks_after_release (blocks_of old ts) (number_of p)) new
 released_is old new ts p c f same holds now =
     subst (λ x. Did ts (Ok tt) x new)
-    (sym (ap (model.blocks_after_release (blocks_of old ts)) f.0.is ∙ ap (λ t. model.or_8 t (model.without f.0.number (blocks_of old ts))) (live_found old ts p c f.0 is_here ∙ f.1)))
+    (sym (ap (model.blocks_after_release (blocks_of old ts)) f.0.is ∙ ap (λ t. model.or_misused t (model.without f.0.number (blocks_of old ts))) (live_found old ts p c f.0 is_here ∙ f.1)))
     (record {
       things = r.things;
       holds = record { holds = r.holds; made = subst (λ l. AreMade r.things l.items) (sym same.cells) (cells_made ts r.things old.cells.items (kept_released ts f.0.number new.places r) holds.made) };
@@ -408,7 +408,7 @@ released_is old new ts p c f same holds now =
 
 pub misused_release : (b : Blocks) (ts : Things) (p : Option Ref) (n : ℕ) → number_of p ≡ Some n → model.passes is_here (model.block_at (blocks_of b ts) (number_of p)) ≡ false → model.blocks_after_release (blocks_of b ts) (number_of p) ≡ Err 8
 misused_release b ts p n is here =
-    ap (model.blocks_after_release (blocks_of b ts)) is ∙ ap (λ t. model.or_8 t (model.without n (blocks_of b ts))) (sym (ap (λ q. model.passes is_here (model.block_at (blocks_of b ts) q)) is) ∙ here)
+    ap (model.blocks_after_release (blocks_of b ts)) is ∙ ap (λ t. model.or_misused t (model.without n (blocks_of b ts))) (sym (ap (λ q. model.passes is_here (model.block_at (blocks_of b ts) q)) is) ∙ here)
 
 -- ---- out and back
 
@@ -440,7 +440,7 @@ out_come old new ts p c mark f sound holds set = record {
 pub out_is : (old new : Blocks) (ts : Things) (p : Option Ref) (c : ℕ) → IsFoundIf model.is_free old ts p (Some c) → IsSound old → Holds old ts → IsOutSet c true old new → Did ts (Ok tt) (model.gone_out (blocks_of old ts) (number_of p)) new
 out_is old new ts p c f sound holds set =
     subst (λ x. Did ts (Ok tt) x new)
-    (sym (ap (model.gone_out (blocks_of old ts)) f.0.is ∙ ap (λ t. model.or_8 t (with_changed_block f.0.number (with_out true) (blocks_of old ts))) (live_found old ts p c f.0 model.is_free ∙ f.1)))
+    (sym (ap (model.gone_out (blocks_of old ts)) f.0.is ∙ ap (λ t. model.or_misused t (with_changed_block f.0.number (with_out true) (blocks_of old ts))) (live_found old ts p c f.0 model.is_free ∙ f.1)))
     (out_come old new ts p c true f.0 sound holds set)
 
 pub misused_out : (b : Blocks) (ts : Things) (p : Option Ref) → model.passes model.is_free (model.block_at (blocks_of b ts) (number_of p)) ≡ false → model.gone_out (blocks_of b ts) (number_of p) ≡ Err 8
@@ -448,7 +448,7 @@ misused_out b ts p free = by (number_of p) refl
   where
     by : (n : Option ℕ) → number_of p ≡ n → model.gone_out (blocks_of b ts) (number_of p) ≡ Err 8
     by None e = ap (model.gone_out (blocks_of b ts)) e
-    by (Some n) e = ap (model.gone_out (blocks_of b ts)) e ∙ ap (λ t. model.or_8 t (with_changed_block n (with_out true) (blocks_of b ts))) (sym (ap (λ q. model.passes model.is_free (model.block_at (blocks_of b ts) q)) e) ∙ free)
+    by (Some n) e = ap (model.gone_out (blocks_of b ts)) e ∙ ap (λ t. model.or_misused t (with_changed_block n (with_out true) (blocks_of b ts))) (sym (ap (λ q. model.passes model.is_free (model.block_at (blocks_of b ts) q)) e) ∙ free)
 
 pub back_is : (old new : Blocks) (ts : Things) (p : Option Ref) (c : ℕ) → IsFoundIf is_out old ts p (Some c) → IsSound old → Holds old ts → IsOutSet c false old new → DidBack ts (Ok true) (model.come_back (blocks_of old ts) (number_of p)) old new
 back_is old new ts p c f sound holds set =

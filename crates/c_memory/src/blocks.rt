@@ -7,6 +7,7 @@ ghost use Rattle.vlt_rings.specs.Things as rings;
 ghost use Rattle.c_meaning.specs.Blocks.{is_there, is_free, blocks_after_own, blocks_after_disown, parent_of, blocks_after_release, gone_out, come_back, read_number, read_reference, write_number, write_reference};
 
 use crate::cells::{Cell, Ref, Shape, at, clear, grow_to, put, put_shape};
+use c_syntax::rules::{DEAD_BLOCK, MISUSED, NO_CELL};
 use std::alloc::Global;
 use vlt_base::{HeapEnd, Memory};
 use vlt_rings::Places;
@@ -19,15 +20,6 @@ pub struct Blocks {
     cells: Vec<Cell>,
     width: u32,
 }
-
-/// The rule for a cell of a null or dead block.
-const DEAD: u8 = 1;
-
-/// The rule for a cell outside the block, and for an unset one.
-const NO_CELL: u8 = 2;
-
-/// The rule for a primitive that is misused.
-const MISUSED: u8 = 8;
 
 /// How many blocks are made at most.
 const MAX_MADE: u64 = 9_223_372_036_854_775_807;
@@ -169,7 +161,7 @@ impl Blocks {
             result ≡ read_number (blocks_of self.now ts) (number_of p) i }
     {
         let Some(c) = self.find(p) else {
-            return Err(DEAD);
+            return Err(DEAD_BLOCK);
         };
         let Some(k) = self.number_cell(c, i) else {
             return Err(NO_CELL);
@@ -195,7 +187,7 @@ impl Blocks {
         ensures sound { IsSound self.new }
     {
         let Some(c) = self.find(p) else {
-            return Err(DEAD);
+            return Err(DEAD_BLOCK);
         };
         let Some(k) = self.number_cell(c, i) else {
             return Err(NO_CELL);
@@ -215,7 +207,7 @@ impl Blocks {
             IsRead ts result (read_reference (blocks_of self.now ts) (number_of p) i) }
     {
         let Some(c) = self.find(p) else {
-            return Err(DEAD);
+            return Err(DEAD_BLOCK);
         };
         let Some(k) = self.reference_cell(c, i) else {
             return Err(NO_CELL);
@@ -242,7 +234,7 @@ impl Blocks {
         ensures sound { IsSound self.new }
     {
         let Some(c) = self.find(p) else {
-            return Err(DEAD);
+            return Err(DEAD_BLOCK);
         };
         let Some(k) = self.reference_cell(c, i) else {
             return Err(NO_CELL);

@@ -2,6 +2,7 @@
 use Rattle.c_meaning.specs.Values.{◌>>=◌}
 use Rattle.std.specs.Prelude.{◌≡◌, ℕ, ℤ, Bool, true, false, List, [], ◌∷◌, Option, Result, Ok, Err}
 use Rattle.vlt_rings.specs.Things.{Things}
+use Rattle.c_syntax.specs.declared.rules.TheConstants as rule
 use Rattle.c_syntax.specs.C.{Arg}
 use Rattle.c_meaning.specs.World.{Vars}
 use Rattle.c_meaning.specs.Primitives.{number_of, reference_of}
@@ -9,14 +10,14 @@ use Rattle.c_memory.specs.declared.cells.Ref.{Ref}
 use Rattle.c_memory.specs.Shown as memory
 use Rattle.c_memory.specs.Shown.{IsMade}
 
--- other arguments than these are rule 8
+-- Other arguments than these are misuse.
 abbrev pub one_number : List Arg → Vars → Result ℤ ℕ
 one_number (x ∷ []) vars = number_of x vars
-one_number _ vars = Err 8
+one_number _ vars = Err rule.MISUSED
 
 abbrev pub one_reference : List Arg → Vars → Result (Option ℕ) ℕ
 one_reference (x ∷ []) vars = reference_of x vars
-one_reference _ vars = Err 8
+one_reference _ vars = Err rule.MISUSED
 
 abbrev pub number_pair : Arg → Arg → Vars → Result (ℤ × ℤ) ℕ
 number_pair x y vars = do
@@ -26,21 +27,21 @@ number_pair x y vars = do
 
 abbrev pub two_numbers : List Arg → Vars → Result (ℤ × ℤ) ℕ
 two_numbers (x ∷ y ∷ []) vars = number_pair x y vars
-two_numbers _ vars = Err 8
+two_numbers _ vars = Err rule.MISUSED
 
 abbrev pub number_and_reference : List Arg → Vars → Result (ℤ × Option ℕ) ℕ
 number_and_reference (x ∷ y ∷ []) vars = do
   a ← number_of x vars
   b ← reference_of y vars
   Ok (a, b)
-number_and_reference _ vars = Err 8
+number_and_reference _ vars = Err rule.MISUSED
 
 abbrev pub two_references : List Arg → Vars → Result (Option ℕ × Option ℕ) ℕ
 two_references (x ∷ y ∷ []) vars = do
   a ← reference_of x vars
   b ← reference_of y vars
   Ok (a, b)
-two_references _ vars = Err 8
+two_references _ vars = Err rule.MISUSED
 
 abbrev pub is_none : List Arg → Bool
 is_none [] = true

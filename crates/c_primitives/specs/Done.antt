@@ -2,6 +2,7 @@
 use Rattle.std.specs.Prelude.{ℕ, ℤ, pos, if◌then◌else◌, Bool, true, false, Option, Some, None, Result, Ok, Err}
 use Rattle.vlt_ops.specs.declared.TrapKind.TheVariants.{Overflow, ZeroDivisor}
 use Rattle.vlt_ops.specs.Operator.{equals}
+use Rattle.c_syntax.specs.declared.rules.TheConstants as rule
 use Rattle.c_memory.specs.declared.cells.Ref.{Ref}
 use Rattle.c_values.specs.declared.value.Value.{Value}
 use Rattle.c_values.specs.declared.value.Value.TheVariants.{Number, Reference}
@@ -30,17 +31,17 @@ is_reading _ = false
 
 abbrev pub number_as : Option ℤ → Result (Option Value) Halt
 number_as (Some z) = Ok (Some (Number z))
-number_as None = Err (Broken 7)
+number_as None = Err (Broken rule.NO_REGISTER)
 
 abbrev pub reference_as : Option (Option Ref) → Result (Option Value) Halt
 reference_as (Some p) = Ok (Some (Reference p))
-reference_as None = Err (Broken 7)
+reference_as None = Err (Broken rule.NO_REGISTER)
 
 abbrev pub halt_of_trap : ℤ → Halt
 halt_of_trap z =
     if equals z (pos 1) then Stopped (Trap Overflow)
     else if equals z (pos 2) then Stopped (Trap ZeroDivisor)
-    else Broken 8
+    else Broken rule.MISUSED
 
 abbrev pub told_of : Talk → Option ℕ
 told_of (Calling told) = Some told

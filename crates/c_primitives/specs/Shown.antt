@@ -10,7 +10,7 @@ use Rattle.c_syntax.specs.C.{Arg}
 use Rattle.c_meaning.specs.World as model
 use Rattle.c_meaning.specs.World.{Vars, Told, told_text}
 use Rattle.c_meaning.specs.Primitives.{Effect, gives, breaks_rule, ends, write_effect}
-use Rattle.c_machine.specs.Bounds.{cells_in_call}
+use Rattle.c_meaning.specs.Widths.{cells_in_call}
 use Rattle.c_machine.specs.Within.{name_in_call}
 use Rattle.c_memory.specs.declared.cells.Ref.{Ref}
 use Rattle.c_memory.specs.Shown.{number_of, heap_of, cells_of, IsSound, IsMade, Holds, blocks_of}

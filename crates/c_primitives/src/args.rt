@@ -8,9 +8,9 @@ ghost use Rattle.c_values.specs.Shown.{shown_vars, AreMadeSlots, IsReference};
 ghost use Rattle.c_primitives.specs.Args as wanted;
 ghost use Rattle.c_primitives.specs.Args.{AreReferences, AreNumberAndReference};
 
-use crate::halt::{MISUSED, OTHER_TYPE};
 use c_memory::Ref;
 use c_syntax::CArg;
+use c_syntax::rules::{MISUSED, UNSET};
 use c_values::{Value, Vars, arg};
 
 /// An argument that is a number.
@@ -20,7 +20,7 @@ fn number(x: &CArg, vars: Vars) -> Result<i64, u8>
 {
     match arg(x, vars) {
         Ok(Value::Number(z)) => Ok(z),
-        Ok(Value::Reference(_)) => Err(OTHER_TYPE),
+        Ok(Value::Reference(_)) => Err(UNSET),
         Err(rule) => Err(rule),
     }
 }
@@ -32,7 +32,7 @@ fn reference(x: &CArg, vars: Vars) -> Result<Option<Ref>, u8>
 {
     match arg(x, vars) {
         Ok(Value::Reference(p)) => Ok(p),
-        Ok(Value::Number(_)) => Err(OTHER_TYPE),
+        Ok(Value::Number(_)) => Err(UNSET),
         Err(rule) => Err(rule),
     }
 }

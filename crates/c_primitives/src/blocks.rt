@@ -7,9 +7,10 @@ ghost use Rattle.c_primitives.specs.Done.{parent_as, back_as};
 ghost use Rattle.c_primitives.specs.Done as kinds;
 
 use crate::args::{asked, one_reference, two_references};
-use crate::halt::{Halt, MISUSED, done};
+use crate::halt::{Halt, done};
 use crate::world::{Talk, World};
 use c_memory::Ref;
+use c_syntax::rules::MISUSED;
 use c_syntax::{CArg, CPrim};
 use c_values::{Value, Vars};
 use vlt_steps::Stop;

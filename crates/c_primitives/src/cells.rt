@@ -4,9 +4,10 @@ ghost use Rattle.std.specs.Prelude.{◌≡◌};
 ghost use Rattle.c_syntax.specs.View.{expr_of};
 ghost use Rattle.c_meaning.specs.Primitives.{set_does, put_does, base_of};
 
-use crate::halt::{Halt, OTHER_TYPE, done};
+use crate::halt::{Halt, done};
 use crate::world::World;
 use c_memory::Ref;
+use c_syntax::rules::UNSET;
 use c_syntax::{CCell, CExpr};
 use c_values::{Value, Vars, base, eval};
 
@@ -42,11 +43,11 @@ impl World<'_> {
         match x {
             CCell::Number { index, .. } => match a {
                 Value::Number(z) => done(self.blocks.write_n(b, index, z)),
-                Value::Reference(_) => Err(Halt::Broken(OTHER_TYPE)),
+                Value::Reference(_) => Err(Halt::Broken(UNSET)),
             },
             CCell::Reference { index, .. } => match a {
                 Value::Reference(p) => done(self.blocks.write_r(b, index, p)),
-                Value::Number(_) => Err(Halt::Broken(OTHER_TYPE)),
+                Value::Number(_) => Err(Halt::Broken(UNSET)),
             },
         }
     }

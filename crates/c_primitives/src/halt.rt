@@ -6,15 +6,6 @@ ghost use Rattle.c_primitives.specs.Done.{done_as};
 use c_values::Value;
 use vlt_steps::Stop;
 
-/// The rule for a value of the other type.
-pub const OTHER_TYPE: u8 = 5;
-
-/// The rule for a register.
-pub const NO_REGISTER: u8 = 7;
-
-/// The rule for what a primitive can't be called with, and for a call out of order.
-pub const MISUSED: u8 = 8;
-
 /// How a statement ends a run.
 #[derive(Clone, Copy, Debug, PartialEq, Eq)]
 pub enum Halt {

@@ -9,8 +9,9 @@ ghost use Rattle.c_primitives.specs.Done as done;
 ghost use Rattle.c_primitives.specs.Taking.{IsReading};
 
 use crate::args::{is_none, one_number};
-use crate::halt::{Halt, MISUSED};
+use crate::halt::Halt;
 use crate::world::{Talk, World};
+use c_syntax::rules::MISUSED;
 use c_syntax::{CArg, CPrim};
 use c_values::{Value, Vars};
 use vlt_ops::TrapKind;

@@ -6,9 +6,10 @@ ghost use Rattle.c_meaning.specs.Primitives.{primitive_does, index_below};
 ghost use Rattle.c_primitives.specs.Done.{number_as, reference_as};
 
 use crate::args::{number_and_reference, one_number, two_numbers};
-use crate::halt::{Halt, NO_REGISTER};
+use crate::halt::Halt;
 use crate::world::World;
 use c_memory::Ref;
+use c_syntax::rules::NO_REGISTER;
 use c_syntax::{CArg, CPrim};
 use c_values::{Value, Vars};
 

@@ -6,8 +6,9 @@ ghost use Rattle.c_meaning.specs.Primitives.{primitive_does};
 ghost use Rattle.c_primitives.specs.Done.{told_of};
 
 use crate::args::{is_none, one_number, one_reference, one_text};
-use crate::halt::{Halt, MISUSED};
+use crate::halt::Halt;
 use crate::world::{Talk, World};
+use c_syntax::rules::MISUSED;
 use c_syntax::{CArg, CPrim};
 use c_values::{Value, Vars};
 use vlt_io::Sink;

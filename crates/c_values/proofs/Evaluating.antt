@@ -11,12 +11,12 @@ use Rattle.c_syntax.specs.C.{Expr}
 use Rattle.c_meaning.specs.Blocks.{Blocks, read_number, read_reference}
 use Rattle.c_meaning.specs.World as model
 use Rattle.c_meaning.specs.World.{Vars}
-use Rattle.c_meaning.specs.Values.{◌>>=◌, a_number, a_reference, set_or_5, base_in, cell_value, p_variable, or_rule, value_of_both, value_of}
+use Rattle.c_meaning.specs.Values.{◌>>=◌, a_number, a_reference, or_unset, base_in, cell_value, p_variable, or_rule, value_of_both, value_of}
 use Rattle.c_memory.specs.declared.cells.Ref.{Ref}
 use Rattle.c_memory.specs.Shown.{number_of, IsMade, IsRead}
 use Rattle.c_values.specs.declared.value.Value.{Value}
 use Rattle.c_values.specs.declared.value.Value.TheVariants.{Number, Reference}
-use Rattle.c_values.specs.Shown.{value_view, IsMadeValue, IsValue, IsReference, IsDecided, operator_value}
+use Rattle.c_values.specs.Shown.{value_view, IsMadeValue, IsValue, IsReference, IsDecided, IsNumberOf, operator_value}
 
 -- ---- what an answer says of the value
 
@@ -50,14 +50,14 @@ reference_rule ts r x b is e = by x (subst (λ q. IsReference ts q x) e is)
 
 -- ---- variables
 
-pub var_value : (ts : Things) (vars : Vars) (v : CVar) (r : Option Value) (a : Value) → option_map value_view r ≡ vars v → r ≡ Some a → IsMadeValue ts a → IsValue ts (Ok a) (set_or_5 (vars v))
-var_value ts vars v r a shown is made = subst (λ x. IsValue ts (Ok a) (set_or_5 x)) (ap (option_map value_view) (sym is) ∙ shown) (refl, made)
+pub var_value : (ts : Things) (vars : Vars) (v : CVar) (r : Option Value) (a : Value) → option_map value_view r ≡ vars v → r ≡ Some a → IsMadeValue ts a → IsValue ts (Ok a) (or_unset (vars v))
+var_value ts vars v r a shown is made = subst (λ x. IsValue ts (Ok a) (or_unset x)) (ap (option_map value_view) (sym is) ∙ shown) (refl, made)
 
-pub var_unset : (ts : Things) (vars : Vars) (v : CVar) (r : Option Value) → option_map value_view r ≡ vars v → r ≡ None → IsValue ts (Err 5) (set_or_5 (vars v))
-var_unset ts vars v r shown is = subst (λ x. IsValue ts (Err 5) (set_or_5 x)) (ap (option_map value_view) (sym is) ∙ shown) refl
+pub var_unset : (ts : Things) (vars : Vars) (v : CVar) (r : Option Value) → option_map value_view r ≡ vars v → r ≡ None → IsValue ts (Err 5) (or_unset (vars v))
+var_unset ts vars v r shown is = subst (λ x. IsValue ts (Err 5) (or_unset x)) (ap (option_map value_view) (sym is) ∙ shown) refl
 
 base_of : Option model.Value → Result (Option ℕ) ℕ
-base_of x = set_or_5 x >>= (λ a. a_reference a)
+base_of x = or_unset x >>= (λ a. a_reference a)
 
 pub base_found : (ts : Things) (vars : Vars) (p : ℕ) (r : Option Value) (q : Option Ref) → option_map value_view r ≡ vars (p_variable p) → r ≡ Some (Reference q) → IsMade ts q → IsReference ts (Ok q) (base_in p vars)
 unfolding base_of
@@ -130,22 +130,22 @@ module _ (ts : Things) (vars : Vars) (bs : Blocks) (o : Op) (e : Expr) (r : Resu
     unfolding binary
     left z is = ap binary (value_is ts r (value_of e vars bs) (Number z) part is)
 
-    pub binary_decided : (z : ℤ) (a : Value) (d : Option Value) → r ≡ Ok (Number z) → IsDecided o z d → d ≡ Some a → IsMadeValue ts a → IsValue ts (Ok a) (value_of (c.binary o e f) vars bs)
-    binary_decided z a d is decided some made =
-        subst (IsValue ts (Ok a)) (sym (left z is ∙ subst (IsDecided o z) some decided (value_of f vars bs))) (refl, made)
+    pub binary_decided : (z k : ℤ) (d : Option ℤ) → r ≡ Ok (Number z) → IsDecided o z d → d ≡ Some k → IsValue ts (Ok (Number k)) (value_of (c.binary o e f) vars bs)
+    binary_decided z k d is decided some =
+        subst (IsValue ts (Ok (Number k))) (sym (left z is ∙ subst (IsDecided o z) some decided (value_of f vars bs))) (refl, tt)
 
-    right : (z : ℤ) (d : Option Value) → r ≡ Ok (Number z) → IsDecided o z d → d ≡ None → value_of (c.binary o e f) vars bs ≡ operator_value o z (value_of f vars bs)
+    right : (z : ℤ) (d : Option ℤ) → r ≡ Ok (Number z) → IsDecided o z d → d ≡ None → value_of (c.binary o e f) vars bs ≡ operator_value o z (value_of f vars bs)
     right z d is decided none = left z is ∙ subst (IsDecided o z) none decided (value_of f vars bs)
 
-    pub binary_value : (z k : ℤ) (d : Option Value) (q s : Result Value ℕ) → r ≡ Ok (Number z) → IsDecided o z d → d ≡ None → IsValue ts q (value_of f vars bs) → q ≡ Ok (Number k) → IsValue ts s (or_rule (applied o z k)) → IsValue ts s (value_of (c.binary o e f) vars bs)
+    pub binary_value : (z k : ℤ) (d : Option ℤ) (q s : Result Value ℕ) → r ≡ Ok (Number z) → IsDecided o z d → d ≡ None → IsValue ts q (value_of f vars bs) → q ≡ Ok (Number k) → IsValue ts s (or_rule (applied o z k)) → IsValue ts s (value_of (c.binary o e f) vars bs)
     binary_value z k d q s is decided none second so h =
         subst (IsValue ts s) (sym (right z d is decided none ∙ ap (operator_value o z) (value_is ts q (value_of f vars bs) (Number k) second so))) h
 
-    pub binary_other : (z : ℤ) (d : Option Value) (q : Result Value ℕ) (u : Option Ref) → r ≡ Ok (Number z) → IsDecided o z d → d ≡ None → IsValue ts q (value_of f vars bs) → q ≡ Ok (Reference u) → IsValue ts (Err 5) (value_of (c.binary o e f) vars bs)
+    pub binary_other : (z : ℤ) (d : Option ℤ) (q : Result Value ℕ) (u : Option Ref) → r ≡ Ok (Number z) → IsDecided o z d → d ≡ None → IsValue ts q (value_of f vars bs) → q ≡ Ok (Reference u) → IsValue ts (Err 5) (value_of (c.binary o e f) vars bs)
     binary_other z d q u is decided none second so =
         subst (IsValue ts (Err 5)) (sym (right z d is decided none ∙ ap (operator_value o z) (value_is ts q (value_of f vars bs) (Reference u) second so))) refl
 
-    pub binary_rule : (z : ℤ) (d : Option Value) (q : Result Value ℕ) (b : ℕ) → r ≡ Ok (Number z) → IsDecided o z d → d ≡ None → IsValue ts q (value_of f vars bs) → q ≡ Err b → IsValue ts (Err b) (value_of (c.binary o e f) vars bs)
+    pub binary_rule : (z : ℤ) (d : Option ℤ) (q : Result Value ℕ) (b : ℕ) → r ≡ Ok (Number z) → IsDecided o z d → d ≡ None → IsValue ts q (value_of f vars bs) → q ≡ Err b → IsValue ts (Err b) (value_of (c.binary o e f) vars bs)
     binary_rule z d q b is decided none second so =
         subst (IsValue ts (Err b)) (sym (right z d is decided none ∙ ap (operator_value o z) (rule_is ts q (value_of f vars bs) b second so))) refl
 
@@ -165,3 +165,20 @@ at_cell ts vars bs r x y e h = subst (λ z. IsValue ts r (cell_value z vars bs))
 
 pub at_expr : (ts : Things) (vars : Vars) (bs : Blocks) (r : Result Value ℕ) (x y : Expr) → x ≡ y → IsValue ts r (value_of y vars bs) → IsValue ts r (value_of x vars bs)
 at_expr ts vars bs r x y e h = subst (λ z. IsValue ts r (value_of z vars bs)) (sym e) h
+
+-- ---- expressions of numbers and variables
+
+module _ (vars : Vars) (o : Op) (a : Expr) (x : ℤ) (left : IsNumberOf a vars x) where
+  pub unary_number : (z : ℤ) → applied o x (pos 0) ≡ Ok z → IsNumberOf (c.unary o a) vars z
+  unary_number z e = λ bs. ap (λ v. v >>= (λ y. a_number y >>= (λ k. or_rule (applied o k (pos 0))))) (left bs) ∙ ap or_rule e
+
+  pub decided_number : (b : Expr) (z : ℤ) (d : Option ℤ) → IsDecided o x d → d ≡ Some z → IsNumberOf (c.binary o a b) vars z
+  decided_number b z d decided some =
+      λ bs. ap (λ v. v >>= (λ y. a_number y >>= (λ k. value_of_both o k (value_of b vars bs)))) (left bs) ∙ subst (IsDecided o x) some decided (value_of b vars bs)
+
+  pub binary_number : (b : Expr) (y z : ℤ) (d : Option ℤ) → IsDecided o x d → d ≡ None → IsNumberOf b vars y → applied o x y ≡ Ok z → IsNumberOf (c.binary o a b) vars z
+  binary_number b y z d decided none right e =
+      λ bs. ap (λ v. v >>= (λ y. a_number y >>= (λ k. value_of_both o k (value_of b vars bs)))) (left bs) ∙ subst (IsDecided o x) none decided (value_of b vars bs) ∙ ap (operator_value o x) (right bs) ∙ ap or_rule e
+
+pub at_number : (vars : Vars) (x y : Expr) (z : ℤ) → x ≡ y → IsNumberOf y vars z → IsNumberOf x vars z
+at_number vars x y z e h = subst (λ q. IsNumberOf q vars z) (sym e) h

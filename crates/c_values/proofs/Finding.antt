@@ -1,5 +1,5 @@
 -- The position of a name, and its value.
-use Rattle.std.proofs.Common.{◌≡◌, ℕ, zero, suc, ◌+◌, ◌<◌, ◌≤◌, min, nat_le, Bool, true, false, if◌then◌else◌, List, [], ◌∷◌, ◌++◌, map, length, drop, drop-cons, get_or, Option, Some, None, refl, sym, ap, ◌∙◌, arith, slice_get}
+use Rattle.std.proofs.Common.{◌≡◌, ℕ, ℤ, zero, suc, ◌+◌, ◌<◌, ◌≤◌, min, nat_le, Bool, true, false, if◌then◌else◌, List, [], ◌∷◌, ◌++◌, map, length, drop, drop-cons, get_or, Option, Some, None, refl, sym, ap, ◌∙◌, arith, slice_get}
 use Rattle.std.proofs.lemmas.Bool.Decides.{nat_tests}
 use Rattle.std.specs.Option.{option_map}
 use Rattle.std.proofs.lemmas.Option.{none-some, slice_get-map}
@@ -11,7 +11,8 @@ use Rattle.c_machine.specs.Machine.{value_under}
 use Rattle.std.specs.Option.{IfSome}
 use Rattle.vlt_rings.specs.Things.{Things}
 use Rattle.c_values.specs.declared.value.Value.{Value}
-use Rattle.c_values.specs.Shown.{AreMadeSlots, IsMadeValue}
+use Rattle.c_values.specs.declared.value.Value.TheVariants.{Number}
+use Rattle.c_values.specs.Shown.{AreMadeSlots, IsMadeValue, value_view}
 use Rattle.c_values.specs.Places.{place_in}
 
 add_zero : (x : Option ℕ) → option_map (λ k. 0 + k) x ≡ x
@@ -154,3 +155,8 @@ at_after xs m j a e = sym (get_drop xs m j) ∙ at_position (drop m xs) j a e
 pub slot_made : (slots : List (Option Value)) (r : Option Value) (k : ℕ) → ((a : Value) → r ≡ Some a → slice_get slots k ≡ Some (Some a)) → IfSome r (λ a. (ts : Things) → AreMadeSlots ts slots → IsMadeValue ts a)
 slot_made slots None k h = tt
 slot_made slots (Some a) k h = λ ts made. made k a (h a refl)
+
+-- the number that a variable shows
+pub number_shown : (r : Option ℤ) (x : Option Value) (y : Option model.Value) → IfSome r (λ z. x ≡ Some (Number z)) → option_map value_view x ≡ y → IfSome r (λ z. y ≡ Some (model.number z))
+number_shown None x y h shown = tt
+number_shown (Some z) x y h shown = sym shown ∙ ap (option_map value_view) h

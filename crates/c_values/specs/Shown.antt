@@ -4,8 +4,10 @@ use Rattle.vlt_rings.specs.Things.{Things}
 use Rattle.c_syntax.specs.declared.program.CVar.{CVar}
 use Rattle.vlt_ops.specs.declared.Op.{Op}
 use Rattle.vlt_ops.specs.Operator.{applied}
+use Rattle.c_syntax.specs.C.{Expr}
+use Rattle.c_meaning.specs.Blocks.{Blocks}
 use Rattle.c_meaning.specs.World as model
-use Rattle.c_meaning.specs.Values.{◌>>=◌, a_number, or_rule, value_of_both}
+use Rattle.c_meaning.specs.Values.{◌>>=◌, a_number, or_rule, value_of, value_of_both}
 use Rattle.c_meaning.specs.World.{Vars}
 use Rattle.c_machine.specs.Machine.{value_under}
 use Rattle.c_memory.specs.declared.cells.Ref.{Ref}
@@ -65,6 +67,10 @@ operator_value o x b = do
   or_rule (applied o x z)
 
 -- the left side alone gives the value, or the right side is asked for, and the operator gives what is wanted
-abbrev pub IsDecided : Op → ℤ → Option Value → Type 0
-IsDecided o x (Some a) = (b : Result model.Value ℕ) → value_of_both o x b ≡ Ok (value_view a)
+abbrev pub IsDecided : Op → ℤ → Option ℤ → Type 0
+IsDecided o x (Some z) = (b : Result model.Value ℕ) → value_of_both o x b ≡ Ok (model.number z)
 IsDecided o x None = (b : Result model.Value ℕ) → value_of_both o x b ≡ operator_value o x b
+
+-- the expression has this number, whatever the blocks hold
+abbrev pub IsNumberOf : Expr → Vars → ℤ → Type 0
+IsNumberOf e vars z = (bs : Blocks) → value_of e vars bs ≡ Ok (model.number z)

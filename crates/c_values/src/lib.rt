@@ -7,6 +7,6 @@ mod exprs;
 mod value;
 mod vars;
 
-pub use exprs::{arg, base, eval};
+pub use exprs::{arg, base, eval, number};
 pub use value::Value;
 pub use vars::{Vars, find};

@@ -5,6 +5,8 @@ ghost use Rattle.vlt_rings.specs.Things.{Things};
 ghost use Rattle.c_meaning.specs.Blocks.{option_join};
 ghost use Rattle.c_syntax.specs.Kinds.{same_variable};
 ghost use Rattle.c_values.specs.Places.{place_in};
+ghost use Rattle.c_meaning.specs.World as model;
+ghost use Rattle.c_values.specs.declared.value.Value.TheVariants.{Number};
 
 use crate::value::Value;
 use c_syntax::CVar;
@@ -47,6 +49,16 @@ fn at(values: &[Option<Value>], i: usize) -> Option<Value>
     }
 }
 
+/// The number at a position, if there is one.
+fn number_at(values: &[Option<Value>], i: usize) -> Option<i64>
+    ensures { IfSome result (λ z. option_join (slice_get values.now i) ≡ Some (Number z)) }
+{
+    match values.get(i) {
+        Some(Some(Value::Number(z))) => Some(*z),
+        _ => None,
+    }
+}
+
 /// The values from a position on.
 fn following(values: &[Option<Value>], n: usize) -> &[Option<Value>]
     requires { n ≤ length values.now }
@@ -68,6 +80,22 @@ impl<'a> Vars<'a> {
             Some(i) => at(self.values, i),
             None => match find(self.declared, v) {
                 Some(j) => at(
+                    following(self.values, self.params.len().min(self.values.len())),
+                    j,
+                ),
+                None => None,
+            },
+        }
+    }
+
+    /// The number of a variable that is set to one.
+    pub fn number(&self, v: CVar) -> Option<i64>
+        ensures { IfSome result (λ z. shown_vars self.now v ≡ Some (model.number z)) }
+    {
+        match find(self.params, v) {
+            Some(i) => number_at(self.values, i),
+            None => match find(self.declared, v) {
+                Some(j) => number_at(
                     following(self.values, self.params.len().min(self.values.len())),
                     j,
                 ),

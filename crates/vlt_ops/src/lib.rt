@@ -150,6 +150,7 @@ macro_rules! answer {
 
 /// What the operator gives for `a` and `b`, or why it traps. A bool is 0 or 1, and every number but 0 is true.
 /// An operator with one operand ignores `b`.
+#[inline(always)]
 pub fn apply(op: Op, a: i64, b: i64) -> Result<i64, TrapKind>
     ensures { result ≡ applied op a b }
 {

@@ -12,7 +12,7 @@ use Rattle.vlt_steps.specs.Ends as ends
 use Rattle.c_syntax.specs.C.{Program}
 use Rattle.c_syntax.specs.Reading.{IsCProgramOf}
 use Rattle.c_meaning.specs.Run.{c_run}
-use Rattle.c_machine.specs.Bounds.{slots_needed}
+use Rattle.c_meaning.specs.Widths.{slots_needed}
 use Rattle.c_interp.specs.declared.stop.CStop.{CStop}
 use Rattle.c_interp.specs.Halting.{StopsAs}
 use Rattle.c_reader.specs.Reads.{IsUnread}

@@ -15,7 +15,9 @@ use Rattle.vlt_meaning.specs.Found.{Found, ◌>>=◌, or_fault, Named}
 use Rattle.vlt_meaning.specs.Values.{touchable, value_of}
 use Rattle.vlt_acts.specs.declared.values.values.Values.{Values}
 use Rattle.vlt_acts.specs.Values.Parts.{padded_parts, head_of, IsObject, IsOwned, HasPart, HasPartAt, HaveParts}
-use Rattle.vlt_acts.specs.Values.Shown.{ShowsObject, ShowsIt, ShowObjects, var_at, Seen, IsFront}
+use Rattle.vlt_meaning.specs.Values.{number_in}
+use Rattle.vlt_acts.proofs.OfValues.Numbers.{front_number}
+use Rattle.vlt_acts.specs.Values.Shown.{ShowsObject, ShowsIt, ShowObjects, var_at, Seen, IsFront, IsNumber}
 use Rattle.vlt_acts.proofs.OfValues.Touching.{OrFault, Touched, touched, touch_fault}
 
 -- the first part of a value
@@ -36,6 +38,22 @@ var_front h v c x a is = by (c.frame.vars x) refl
     by : (w : Option Value) → c.frame.vars x ≡ w → IsFront c.items a (or_fault no_value w)
     by None e = refl
     by (Some w) e = has_part c.items v.slots.items (var_at v x) (head_of w) a is (front_part c.items v.slots.items (var_at v x) v.width w (c.fits.vars x w e).value.parts)
+
+-- ---- the number of a variable
+
+same_number : (x z : ℤ) → ◌≡◌ {A = Slot} (Number x) (Number z) → x ≡ z
+same_number x z e = ap of e
+  where
+    of : Slot → ℤ
+    of (Number q) = q
+    of _ = x
+
+pub var_number : (h : Heap) (v : Values) (c : Seen h v) (x : ℕ) (y : ℤ) → ((z : ℤ) → slice_get v.slots.items (var_at v x) ≡ Some (Number z) → y ≡ z) → IsNumber (Ok y) (or_fault no_value (c.frame.vars x) >>= number_in)
+var_number h v c x y is = by (slice_get v.slots.items (var_at v x)) refl
+  where
+    by : (s : Option Slot) → slice_get v.slots.items (var_at v x) ≡ s → IsNumber (Ok y) (or_fault no_value (c.frame.vars x) >>= number_in)
+    by None e = front_number c.items (Number y) (or_fault no_value (c.frame.vars x)) y (var_front h v c x (Number y) (λ b there. absurd (none-some b (sym e ∙ there)))) (λ z k. same_number y z k)
+    by (Some b) e = front_number c.items b (or_fault no_value (c.frame.vars x)) y (var_front h v c x b (λ d there. same_Some b d (sym e ∙ there))) (λ z k. is z (e ∙ ap (λ q. Some q) k))
 
 -- ---- fields
 

@@ -1,5 +1,6 @@
 -- The numbers of expressions, from those of their parts.
-use Rattle.std.proofs.Common.{◌≡◌, ◌⊎◌, inl, inr, ℤ, pos, Bool, true, List, Result, Ok, Err, refl, sym, ap, ◌∙◌, subst}
+use Rattle.std.proofs.Common.{◌≡◌, ◌⊎◌, inl, inr, ℤ, pos, Bool, true, List, Result, Ok, Err, Option, Some, None, IfSome, refl, sym, ap, ◌∙◌, subst}
+use Rattle.std.specs.Result.{result_ok}
 use Rattle.vlt_ops.specs.declared.Op.{Op}
 use Rattle.vlt_ops.specs.declared.TrapKind.{TrapKind}
 use Rattle.vlt_ops.specs.Operator.{applied}
@@ -190,3 +191,15 @@ module _ (p : Program) (f : Func) (frame : Frame) (objects : List Object) (op : 
 
 pub at_expr : (p : Program) (f : Func) (frame : Frame) (objects : List Object) (r : Result ℤ TrapKind) (x y : Expr) → x ≡ y → IsNumber r (number_of p f y frame objects) → IsNumber r (number_of p f x frame objects)
 at_expr p f frame objects r x y e h = subst (λ z. IsNumber r (number_of p f z frame objects)) (sym e) h
+
+-- the number that is left of an answer
+pub ok_number : (r : Result ℤ TrapKind) (o : Option ℤ) (x : Found ℤ) → o ≡ result_ok r → IsNumber r x → IfSome o (λ z. IsNumber (Ok z) x)
+ok_number (Ok z) o x e h = subst (λ q. IfSome q (λ z. IsNumber (Ok z) x)) (sym e) h
+ok_number (Err t) o x e h = subst (λ q. IfSome q (λ z. IsNumber (Ok z) x)) (sym e) tt
+
+pub each_number : (o : Option ℤ) (x y : Found ℤ) → ((z : ℤ) → IsNumber (Ok z) x → IsNumber (Ok z) y) → IfSome o (λ z. IsNumber (Ok z) x) → IfSome o (λ z. IsNumber (Ok z) y)
+each_number None x y goes h = tt
+each_number (Some z) x y goes h = goes z h
+
+pub known_number : (o : Option ℤ) (z : ℤ) (x : Found ℤ) → o ≡ Some z → IfSome o (λ z. IsNumber (Ok z) x) → IsNumber (Ok z) x
+known_number o z x e h = subst (λ q. IfSome q (λ z. IsNumber (Ok z) x)) e h

@@ -1,6 +1,6 @@
 //! The numbers that expressions give.
 
-ghost use Rattle.std.specs.Prelude.{◌≡◌, ◌≤◌, ℤ};
+ghost use Rattle.std.specs.Prelude.{◌≡◌, ◌≤◌, ℤ, Ok, IfSome};
 ghost use Rattle.vlt_ops.specs.Operator.{bool_number};
 ghost use Rattle.vlt_core.specs.View.{expr_of};
 ghost use Rattle.vlt_core.specs.Core.{field as a_field};
@@ -69,8 +69,69 @@ pub fn asked(op: Op, left: i64) -> Sides
     }
 }
 
-/// The number that an expression of type int or bool gives.
+/// The number that an expression of type int or bool gives, or the first trap.
 pub fn number(e: &Expr, values: &Values, heap: &Heap) -> Result<i64, TrapKind>
+    requires sound { IsSound heap.now }
+    requires table { IsTable values.now }
+    ensures { (c : Seen heap.now values.now) →
+        IsNumber result (number_of c.program c.func (expr_of e.now) c.frame c.objects) }
+{
+    // Few expressions trap, and a number without a trap takes fewer instructions to return.
+    match trapless_number(e, values, heap) {
+        Some(z) => Ok(z),
+        None => number_or_trap(e, values, heap),
+    }
+}
+
+/// The number that an operand gives if no operator traps. Most operands are numbers and variables: these need no call.
+#[inline(always)]
+#[cycle(trapless)]
+fn operand(e: &Expr, values: &Values, heap: &Heap) -> Option<i64>
+    requires sound { IsSound heap.now }
+    requires table { IsTable values.now }
+    ensures { (c : Seen heap.now values.now) → IfSome result (λ z.
+        IsNumber (Ok z) (number_of c.program c.func (expr_of e.now) c.frame c.objects)) }
+{
+    match e {
+        Expr::Number(z) => Some(*z),
+        Expr::Var(v) => Some(values.number(*v)),
+        _ => trapless_number(e, values, heap),
+    }
+}
+
+/// The number that an expression gives if no operator traps.
+#[cycle(trapless)]
+fn trapless_number(e: &Expr, values: &Values, heap: &Heap) -> Option<i64>
+    requires sound { IsSound heap.now }
+    requires table { IsTable values.now }
+    ensures { (c : Seen heap.now values.now) → IfSome result (λ z.
+        IsNumber (Ok z) (number_of c.program c.func (expr_of e.now) c.frame c.objects)) }
+{
+    match e {
+        Expr::Number(z) => Some(*z),
+        Expr::Bool(b) => Some(truth(*b)),
+        Expr::Var(v) => Some(values.number(*v)),
+        Expr::Field(x, i) => Some(number_in(front_of_field(*x, *i, values, heap))),
+        Expr::Un(op, a) => {
+            let z = operand(a.get(), values, heap)?;
+            apply(*op, z, 0).ok()
+        }
+        Expr::Bin(op, a, b) => {
+            let z = operand(a.get(), values, heap)?;
+            match asked(*op, z) {
+                Sides::Left => Some(z),
+                Sides::Right => operand(b.get(), values, heap),
+                Sides::Both => {
+                    let y = operand(b.get(), values, heap)?;
+                    apply(*op, z, y).ok()
+                }
+            }
+        }
+    }
+}
+
+/// The number that an expression gives, or the first trap, at each operator.
+fn number_or_trap(e: &Expr, values: &Values, heap: &Heap) -> Result<i64, TrapKind>
     requires sound { IsSound heap.now }
     requires table { IsTable values.now }
     ensures { (c : Seen heap.now values.now) →
@@ -81,15 +142,15 @@ pub fn number(e: &Expr, values: &Values, heap: &Heap) -> Result<i64, TrapKind>
         Expr::Bool(b) => Ok(truth(*b)),
         Expr::Var(v) => Ok(number_in(values.front(*v))),
         Expr::Field(x, i) => Ok(number_in(front_of_field(*x, *i, values, heap))),
-        Expr::Un(op, a) => match number(a.get(), values, heap) {
+        Expr::Un(op, a) => match number_or_trap(a.get(), values, heap) {
             Ok(z) => apply(*op, z, 0),
             Err(t) => Err(t),
         },
-        Expr::Bin(op, a, b) => match number(a.get(), values, heap) {
+        Expr::Bin(op, a, b) => match number_or_trap(a.get(), values, heap) {
             Ok(z) => match asked(*op, z) {
                 Sides::Left => Ok(z),
-                Sides::Right => number(b.get(), values, heap),
-                Sides::Both => match number(b.get(), values, heap) {
+                Sides::Right => number_or_trap(b.get(), values, heap),
+                Sides::Both => match number_or_trap(b.get(), values, heap) {
                     Ok(y) => apply(*op, z, y),
                     Err(t) => Err(t),
                 },

@@ -1,6 +1,6 @@
 //! The values of all frames in one table.
 
-ghost use Rattle.std.specs.Prelude.{◌≡◌, ◌≤◌, ◌<◌, ◌+◌, ◌*◌, ◌^◌, ◌++◌, ◌∷◌, [], take, drop, length, Some, IfOk, slice_get, slice_set, vec_capacity, max};
+ghost use Rattle.std.specs.Prelude.{◌≡◌, ◌≤◌, ◌<◌, ◌+◌, ◌*◌, ◌^◌, ◌++◌, ◌∷◌, [], ℤ, take, drop, length, Some, IfOk, slice_get, slice_set, vec_capacity, max};
 ghost use Rattle.vlt_heap.specs.Shown.{IsSound};
 ghost use Rattle.vlt_acts.specs.Values.Filled.{IsFilled, IsCellSlot, IsSingleSlot};
 
@@ -36,6 +36,16 @@ fn at(slots: &[Slot], k: u64) -> Slot
     match slots.get(k as usize) {
         Some(a) => *a,
         None => Slot::Number(0),
+    }
+}
+
+/// The number of a slot, or 0 where it has none.
+fn number_at(slots: &[Slot], k: u64) -> i64
+    ensures { (z : ℤ) → slice_get slots.now k ≡ Some (Slot.Number z) → result ≡ z }
+{
+    match slots.get(k as usize) {
+        Some(Slot::Number(z)) => *z,
+        _ => 0,
     }
 }
 
@@ -139,6 +149,16 @@ impl Values {
             Some a → result ≡ a }
     {
         self.slot(v, 0)
+    }
+
+    /// The number of a variable, or 0 where it has none.
+    pub fn number(&self, v: VarId) -> i64
+        requires { IsTable self.now }
+        ensures { (z : ℤ) → slice_get self.now.slots.items (var_at self.now v.0) ≡
+            Some (Slot.Number z) → result ≡ z }
+    {
+        let k = u64::from(v.0) * u64::from(self.width);
+        number_at(following(&self.slots, self.base), k)
     }
 
     /// Where the slots of an object's cell begin.

@@ -2,7 +2,7 @@ use Rattle.std.proofs.Common.{◌≡◌, ◌≤◌, ◌+◌, vec_capacity, Some,
 use Rattle.vlt_numbers.specs.HostAnswers.{lists_of}
 use Rattle.c_syntax.specs.View.{program_of}
 use Rattle.c_meaning.specs.Run.{main_of, c_run}
-use Rattle.c_machine.specs.Bounds.{block_cells}
+use Rattle.c_meaning.specs.Widths.{block_cells}
 use Rattle.c_machine.specs.Within.{longest_name}
 use Rattle.c_memory.specs.Shown.{cells_of}
 use Rattle.c_primitives.specs.Shown.{Shows}

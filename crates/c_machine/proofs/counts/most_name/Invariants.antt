@@ -1,6 +1,6 @@
 use Rattle.std.proofs.Common.{◌≡◌, max, drop, map}
 use Rattle.c_syntax.specs.View.{func_of}
-use Rattle.c_machine.specs.Bounds.{most}
+use Rattle.c_meaning.specs.Widths.{most}
 use Rattle.c_machine.specs.Within.{name_of}
 use Rattle.c_machine.proofs.counts.most_name.Given as goal
 

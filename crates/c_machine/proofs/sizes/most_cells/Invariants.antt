@@ -1,6 +1,6 @@
 use Rattle.std.proofs.Common.{◌≡◌, max, drop, map}
 use Rattle.c_syntax.specs.View.{func_of}
-use Rattle.c_machine.specs.Bounds.{most, cells_of}
+use Rattle.c_meaning.specs.Widths.{most, cells_of}
 use Rattle.c_machine.proofs.sizes.most_cells.Given as goal
 
 abbrev pub invariant-loop-f : goal.invariant-loop-f

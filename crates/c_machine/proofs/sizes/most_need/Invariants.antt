@@ -1,6 +1,7 @@
 use Rattle.std.proofs.Common.{◌≡◌, max, drop, map}
 use Rattle.c_syntax.specs.View.{func_of}
-use Rattle.c_machine.specs.Bounds.{most, need_of}
+use Rattle.c_machine.specs.Bounds.{need_of}
+use Rattle.c_meaning.specs.Widths.{most}
 use Rattle.c_machine.proofs.sizes.most_need.Given as goal
 
 abbrev pub invariant-loop-f : goal.invariant-loop-f

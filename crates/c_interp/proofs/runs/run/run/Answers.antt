@@ -4,7 +4,7 @@ use Rattle.vlt_steps.specs.Writing.{Outside}
 use Rattle.vlt_steps.specs.declared.end.RunEnd.TheVariants.{Stopped}
 use Rattle.vlt_steps.proofs.Ending.{fits}
 use Rattle.c_syntax.specs.View.{program_of}
-use Rattle.c_machine.specs.Bounds.{slots_needed}
+use Rattle.c_meaning.specs.Widths.{slots_needed}
 use Rattle.c_interp.specs.Runs.Ends.{EndsRun}
 use Rattle.c_interp.proofs.OfRuns.Ending.{stops}
 use Rattle.c_interp.proofs.runs.run.run.Goals as goal
