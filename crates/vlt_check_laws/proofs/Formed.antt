@@ -7,9 +7,9 @@ use Rattle.vlt_core.specs.Faults.{FlowFault, IsFirstFault}
 use Rattle.vlt_core_laws.proofs.Formed.{formed_bodies}
 use Rattle.vlt_core_laws.proofs.Deriving.{annotated}
 use Rattle.vlt_core_laws.specs.Fit.{IsWellFormed}
-use Rattle.vlt_check_laws.specs.Shown.{HasWitness}
+use Rattle.vlt_check_laws.specs.Shown.{HasWitness, IsFault}
 use Rattle.vlt_check_laws.proofs.Refuting.{refuted}
-use Rattle.vlt_check_laws.proofs.Showing.{first_shown}
+use Rattle.vlt_check_laws.proofs.Showing.{fault_shown, first_is_fault}
 
 pub none_accepted : (p : Program) (x : FlowFault) → IsWellFormed p → IsAccepted p → HasWitness p x → ⊥
 none_accepted p x well ok h =
@@ -18,5 +18,8 @@ none_accepted p x well ok h =
     let some = annotated (body_flow p f) (start_map p f) fit.fit.jumping (ok x.function w.func x.origin w.there w.with_body w.origin) in
     refuted p f x h.first h.second some.0 w.shows some.1
 
+pub formed_fault_shown : (p : Program) (x : FlowFault) → IsWellFormed p → IsFault p x → HasWitness p x
+formed_fault_shown p x well w = fault_shown p x w (formed_bodies p x.function w.func x.origin well w.there w.with_body w.origin).fit.tame
+
 pub formed_shown : (p : Program) (x : FlowFault) → IsWellFormed p → IsFirstFault p x → HasWitness p x
-formed_shown p x well w = first_shown p x w (formed_bodies p x.function w.func x.origin well w.there w.with_body w.first.is).fit.tame
+formed_shown p x well w = formed_fault_shown p x well (first_is_fault p x w)

@@ -1,4 +1,4 @@
--- The first fault of a body has a witness.
+-- Each fault of a body has a witness.
 use Rattle.std.proofs.Common.{◌≡◌, ℕ, List, Option, None, Some, refl, sym}
 use Rattle.vlt_core.specs.Core.{Tok, Func, Program}
 use Rattle.vlt_core.specs.Instances.{instance}
@@ -10,7 +10,7 @@ use Rattle.vlt_core.specs.Faults.{Spot, SpotAtBlock, IsPresent, IsMixed, IsUnwan
 use Rattle.vlt_core.specs.Witness.{Choice, Refuses, NoJoin, NoRow, IsJoin, IsWitnessIn}
 use Rattle.vlt_core_laws.specs.Tame.{IsTameBlock}
 use Rattle.vlt_core_laws.proofs.Together.{block_together}
-use Rattle.vlt_check_laws.specs.Shown.{HasWitness}
+use Rattle.vlt_check_laws.specs.Shown.{HasWitness, IsFault}
 use Rattle.vlt_check_laws.proofs.Widening.{wide_block}
 use Rattle.vlt_check_laws.proofs.Meets.{Never, Holds}
 use Rattle.vlt_check_laws.proofs.Meeting.{Singles, body}
@@ -57,12 +57,17 @@ module _ (p : Program) (f : Func) (function : ℕ) (origin : Option ℕ) (at : �
       let b = body Never (Holds IsPresent) NoRow (IsJoin q IsPresent) q t (join_singles IsPresent q t) s 0 S tame there in
       record { first = a.choices; second = Some b.choices; shown = (q, e, (a.start, a.comes, a.fact), (b.start, b.comes, b.fact)) }
 
-pub first_shown : (p : Program) (x : FlowFault) → (w : IsFirstFault p x) → IsTameBlock (body_flow p (instance p w.func x.origin)) → HasWitness p x
-first_shown p x w tame =
-    let q = w.first.first in
-    let z = shows p (instance p w.func x.origin) x.function x.origin x.at x.tok tame x.kind q.spot q.place q.faulty q.told in
+pub fault_shown : (p : Program) (x : FlowFault) → (w : IsFault p x) → IsTameBlock (body_flow p (instance p w.func x.origin)) → HasWitness p x
+fault_shown p x w tame =
+    let z = shows p (instance p w.func x.origin) x.function x.origin x.at x.tok tame x.kind w.spot w.place w.faulty w.told in
     record {
       first = z.first;
       second = z.second;
-      shown = record { func = w.func; there = w.there; with_body = w.with_body; origin = w.first.is; shows = z.shown };
+      shown = record { func = w.func; there = w.there; with_body = w.with_body; origin = w.origin; shows = z.shown };
     }
+
+-- the first fault of a program is one
+pub first_is_fault : (p : Program) (x : FlowFault) → IsFirstFault p x → IsFault p x
+first_is_fault p x w =
+    let q = w.first.first in
+    record { func = w.func; there = w.there; with_body = w.with_body; origin = w.first.is; spot = q.spot; place = q.place; faulty = q.faulty; told = q.told }

@@ -1,6 +1,6 @@
 //! Laws of the check: nothing goes in and nothing comes out.
 //! Read `specs/Judged.antt` first, then `specs/Shown.antt`.
-//! Used by: `check`, which decides each program, and `explain`, which shows why.
+//! Used by: `check`, which decides each program, and `explain` and `vaultq paths`, which show why.
 #![tactic(auto)]
 
 ghost use Rattle.vlt_core.specs.Core.{Program, Func};
@@ -12,7 +12,7 @@ ghost use Rattle.vlt_core.specs.Derives.{IsAccepted};
 ghost use Rattle.vlt_core.specs.Local.{Notes, IsLocalIn};
 ghost use Rattle.vlt_core.specs.Faults.{FlowFault, IsFirstFault};
 ghost use Rattle.vlt_core.specs.Witness.{Choice, IsWitnessIn};
-ghost use Rattle.vlt_check_laws.specs.Shown.{HasWitness};
+ghost use Rattle.vlt_check_laws.specs.Shown.{HasWitness, IsFault};
 
 /// It can't be that a program that breaks no rule on names and types is neither accepted nor has a first fault.
 pub fn programs_are_judged()
@@ -36,4 +36,9 @@ pub fn accepted_has_no_witness()
 pub fn first_fault_has_witness()
     ensures { (p : Program) (x : FlowFault) → IsWellFormed p → IsFirstFault p x →
         HasWitness p x }
+{}
+
+/// Each fault of a program has a witness, the first one of its body or not.
+pub fn faults_have_witnesses()
+    ensures { (p : Program) (x : FlowFault) → IsWellFormed p → IsFault p x → HasWitness p x }
 {}

@@ -18,15 +18,16 @@ mod tables;
 
 use crate::finding::sweep::spread;
 pub use ones::Ones;
-pub use pass::pass_row;
+pub use pass::{pass_gone, pass_row, pass_rows};
 pub use singles::{is_empty, made, nothing};
 use std::alloc::{AllocError, Global};
 pub use tables::Tables;
 use vlt_core::Tok;
 use vlt_rows::FlowBlock;
 
-/// What is found of a token that comes in with these.
-pub fn found(
+/// What paths find of a token that comes to the body with these: at each loop's head, and after each loop and choice.
+/// `count` is how many statements the body has.
+pub fn find_statuses(
     alloc: Global,
     tok: Tok,
     body: &FlowBlock,

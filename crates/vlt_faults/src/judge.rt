@@ -12,7 +12,7 @@ ghost use Rattle.vlt_core.specs.View.{program_of, func_of, tok_of};
 ghost use Rattle.vlt_core.specs.FaultView.{kind_of};
 ghost use Rattle.vlt_rows.specs.Unfit.{UnfitBy};
 ghost use Rattle.vlt_faults.specs.Judge.Faulty.{IsFitIn, AreFitIn, IsUntold, HasUntold};
-ghost use Rattle.vlt_faults.specs.Judge.Overs.{IsFirstOver};
+ghost use Rattle.vlt_faults.specs.Judge.Overs.{AreBounds, IsFirstOver};
 ghost use Rattle.vlt_faults.specs.Judge.Instances.{IsSooner, IsNext, AreJudged};
 
 mod blame;
@@ -22,22 +22,24 @@ mod rows;
 mod telling;
 mod tokens;
 
-use crate::judge::blame::{Blame, is_no_later};
-use crate::judge::tokens::judge;
+use crate::judge::tokens::{judge, judge_one, token_bounds};
+pub use blame::{Blame, Class, is_no_later};
 use std::alloc::Global;
+pub use tokens::{TokenBounds, start_ones, statement_count};
 use vlt_base::FnId;
-use vlt_core::{FlowFault, Func, Program};
+use vlt_core::{FlowFault, Func, Program, Tok};
 use vlt_flow_maps::start_map_of;
 use vlt_rows::{RowError, body_flow, origins};
 
-/// A blame in the instance of this origin.
-#[derive(Clone, Copy)]
-struct Told {
-    origin: Option<u8>,
-    blame: Blame,
+/// A faulty row or join in one instance of a function.
+#[derive(Clone, Copy, Debug)]
+pub struct InstanceBlame {
+    /// The state by which the instance goes; `None` for a function without a bound entry.
+    pub origin: Option<u8>,
+    pub blame: Blame,
 }
 
-fn fault_of(fn_id: FnId, told: Told) -> FlowFault
+fn fault_of(fn_id: FnId, told: InstanceBlame) -> FlowFault
     ensures function { result.fn_id ≡ fn_id }
     ensures origin { result.origin ≡ told.origin }
     ensures at { result.at ≡ told.blame.at }
@@ -71,8 +73,49 @@ fn blame_in(
     judge(alloc, &flow, &start)
 }
 
+/// The first fault of one token in a function's body, in the instance of this origin, if it has any there. `Unfit` if no
+/// fault of that body can be told (`IsUntold`).
+pub fn blame_of(
+    alloc: Global,
+    p: &Program,
+    f: &Func,
+    origin: Option<u8>,
+    tok: Tok,
+) -> Result<Option<Blame>, RowError>
+    ensures first { IfOk result (IsFirstOver (λ t. t ≡ tok_of tok)
+        (core.body_flow (program_of p.now) (instance (program_of p.now) (func_of f.now) origin))
+        (start_map (program_of p.now) (instance (program_of p.now) (func_of f.now) origin))) }
+    ensures own { IfOk result (λ x. IfSome x (λ b. tok_of b.tok ≡ tok_of tok)) }
+    ensures unfit { IfErr result (UnfitBy (IsUntold (program_of p.now)
+        (instance (program_of p.now) (func_of f.now) origin))) }
+{
+    let flow = body_flow(alloc, p, f, origin)?;
+    let start = start_map_of(alloc, p, f, origin)?;
+    judge_one(alloc, &flow, &start, tok)
+}
+
+/// Numbers of keys and variables such that a token beyond them is named by no row of the body, in the instance of this
+/// origin, and absent at its start. `Unfit` if no fault of that body can be told (`IsUntold`).
+pub fn token_bounds_in(
+    alloc: Global,
+    p: &Program,
+    f: &Func,
+    origin: Option<u8>,
+) -> Result<TokenBounds, RowError>
+    ensures bounds { IfOk result (λ c. AreBounds
+        (core.body_flow (program_of p.now) (instance (program_of p.now) (func_of f.now) origin))
+        (start_map (program_of p.now) (instance (program_of p.now) (func_of f.now) origin))
+        c.keys c.vars) }
+    ensures unfit { IfErr result (UnfitBy (IsUntold (program_of p.now)
+        (instance (program_of p.now) (func_of f.now) origin))) }
+{
+    let flow = body_flow(alloc, p, f, origin)?;
+    let start = start_map_of(alloc, p, f, origin)?;
+    token_bounds(&flow, &start)
+}
+
 /// The first of two faults, the second of a later instance; of two at one spot the earlier instance's.
-fn sooner(told: Told, next: Told) -> Told
+fn sooner(told: InstanceBlame, next: InstanceBlame) -> InstanceBlame
     ensures { IsSooner told next result }
 {
     if is_no_later(told.blame, next.blame) {
@@ -82,14 +125,18 @@ fn sooner(told: Told, next: Told) -> Told
     }
 }
 
-/// The first of the faults of earlier instances and the next one's.
-fn first_told(first: Option<Told>, origin: Option<u8>, next: Option<Blame>) -> Option<Told>
+/// The first of the faults of earlier instances and of the next one, which goes by this origin.
+pub fn first_blame(
+    first: Option<InstanceBlame>,
+    origin: Option<u8>,
+    next: Option<Blame>,
+) -> Option<InstanceBlame>
     ensures { IsNext first origin next result }
 {
     let Some(blame) = next else {
         return first;
     };
-    let next = Told { origin, blame };
+    let next = InstanceBlame { origin, blame };
     match first {
         None => Some(next),
         Some(told) => Some(sooner(told, next)),
@@ -97,14 +144,14 @@ fn first_told(first: Option<Told>, origin: Option<u8>, next: Option<Blame>) -> O
 }
 
 /// The first fault of a function's body over its instances.
-fn told_in(alloc: Global, p: &Program, f: &Func) -> Result<Option<Told>, RowError>
+fn told_in(alloc: Global, p: &Program, f: &Func) -> Result<Option<InstanceBlame>, RowError>
     ensures first { IfOk result (AreJudged (program_of p.now) (func_of f.now)) }
     ensures unfit { IfErr result (UnfitBy (HasUntold (program_of p.now) (func_of f.now))) }
 {
     let origins = origins(alloc, p, f)?;
     let mut first = None;
     for origin in origins.as_slice() {
-        first = first_told(first, *origin, blame_in(alloc, p, f, *origin)?);
+        first = first_blame(first, *origin, blame_in(alloc, p, f, *origin)?);
     }
     Ok(first)
 }

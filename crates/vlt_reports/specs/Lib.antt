@@ -1,4 +1,5 @@
 pub mod Accepted
+pub mod Placed
 pub mod Reports
 pub mod Seen
 pub mod Writing

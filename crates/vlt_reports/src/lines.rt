@@ -1,6 +1,6 @@
 //! Whole lines.
 
-ghost use Rattle.std.specs.Prelude.{◌≡◌, ◌<◌, ◌^◌, ◌-◌, not, length, map, filter, IfOk};
+ghost use Rattle.std.specs.Prelude.{◌≡◌, ◌<◌, ◌^◌, ◌-◌, ℕ, not, List, length, map, filter, IfOk};
 ghost use Rattle.vlt_base.specs.Place.{line_of, column_of};
 ghost use Rattle.vlt_core.specs.View.{program_of, func_of, tok_of};
 ghost use Rattle.vlt_core.specs.FaultView.{kind_of};
@@ -57,6 +57,27 @@ fn add_kind(
     }
 }
 
+/// The line of a fault at the byte of this line and column. It says what `fault` says.
+pub fn fault_at(
+    alloc: Global,
+    line: u32,
+    column: u32,
+    p: &Program,
+    f: &Func,
+    token: Tok,
+    kind: FaultKind,
+) -> Result<Vec<u8>, AllocError>
+    ensures { (text : List ℕ) (at : ℕ) → line ≡ line_of text at → column ≡ column_of text at →
+        IfOk result (λ v. v.items ≡ fault_line text (program_of p.now) (func_of f.now) at
+        (tok_of token) (kind_of kind)) }
+{
+    let mut out = format!(in alloc; "protocol {line}:{column} ")?.into_bytes();
+    add(&mut out, token_name(f, token))?;
+    add_kind(&mut out, alloc, state_names(p, f, token), kind)?;
+    add(&mut out, b"\n")?;
+    Ok(out)
+}
+
 /// Where a function breaks the rules on keys, by which token, and how.
 pub fn fault(
     alloc: Global,
@@ -73,11 +94,7 @@ pub fn fault(
         (kind_of kind)) }
 {
     let (line, column) = place_within(text, at);
-    let mut out = format!(in alloc; "protocol {line}:{column} ")?.into_bytes();
-    add(&mut out, token_name(f, token))?;
-    add_kind(&mut out, alloc, state_names(p, f, token), kind)?;
-    add(&mut out, b"\n")?;
-    Ok(out)
+    fault_at(alloc, line, column, p, f, token, kind)
 }
 
 /// How many of the functions have a body.

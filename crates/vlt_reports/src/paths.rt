@@ -82,7 +82,7 @@ fn add_choice(
 }
 
 /// The words for the instance of a function.
-fn instance(
+pub fn instance(
     alloc: Global,
     p: &Program,
     f: &Func,

@@ -77,7 +77,7 @@ fn add_states(out: &mut Vec<u8>, names: &[&[u8]]) -> Result<(), AllocError>
 }
 
 /// Adds the states of a set, or nothing where a token's object has no set of states.
-fn add_set(
+pub fn add_set(
     out: &mut Vec<u8>,
     alloc: Global,
     names: Option<&[Items<u8>]>,

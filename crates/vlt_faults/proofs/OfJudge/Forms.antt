@@ -5,8 +5,7 @@ use Rattle.vlt_core.specs.Maps.{Row, away_row}
 use Rattle.vlt_core.specs.Flow.{choose, loop, switch, scope, focus, return, jump, Block, block, Stmts, Arms, end_of, size, size_block, size_arms}
 use Rattle.vlt_core.specs.Found.{One, Ones, images, jumps, out, out_block, out_stmts, to_next, head_of}
 use Rattle.vlt_core.specs.Faults.{spots, spots_block, spots_arms}
-use Rattle.vlt_core_laws.specs.Sweep.{In, IsImage}
-use Rattle.vlt_core_laws.proofs.Sweeping.{IsSameOnes, FitsBlock}
+use Rattle.vlt_core_laws.specs.Sweep.{In, IsImage, IsSameOnes, FitsBlock}
 use Rattle.vlt_faults.specs.declared.finding.ones.Ones as D
 use Rattle.vlt_faults.specs.Finding.Ones.{many_of}
 use Rattle.vlt_faults.specs.Finding.Marks.{Marks, at as table}

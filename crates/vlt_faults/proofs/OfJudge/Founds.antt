@@ -6,7 +6,7 @@ use Rattle.vlt_core.specs.Flow.{step, Block, block, Stmts}
 use Rattle.vlt_core.specs.Found.{Ones}
 use Rattle.vlt_core.specs.Faults.{Spot, RowAt, SpotAtBlock, SpotAtStmts, IsMixed, IsUnwanted, FaultKind}
 use Rattle.vlt_core_laws.proofs.Congruent.{OfFoundRows, OfFoundJoins, mixed_of_found, unwanted_of_found, row_told_of_found, join_told_of_found, same_spot, same_spot_block}
-use Rattle.vlt_core_laws.proofs.Sweeping.{IsSameOnes}
+use Rattle.vlt_core_laws.specs.Sweep.{IsSameOnes}
 use Rattle.vlt_faults.specs.Judge.Blames.{TellsUnwanted, TellsMixed}
 
 pub unwanted_told : (kind : FaultKind) → OfFoundRows (TellsUnwanted kind)

@@ -9,7 +9,7 @@ use Rattle.vlt_core.specs.View.{tok_of}
 use Rattle.vlt_core.specs.FaultView.{kind_of}
 use Rattle.vlt_core_laws.proofs.Origins.{origin_at, origin_is, origin_later}
 use Rattle.vlt_faults.specs.declared.judge.blame.Blame.{Blame}
-use Rattle.vlt_faults.specs.declared.judge.Told.{Told}
+use Rattle.vlt_faults.specs.declared.judge.InstanceBlame.{InstanceBlame}
 use Rattle.vlt_faults.specs.Judge.Blames.{spot_of}
 use Rattle.vlt_faults.specs.Judge.Faulty.{IsFitIn, AreFitIn, IsUntold, HasUntold}
 use Rattle.vlt_faults.specs.Judge.Instances.{IsFirstBlame, IsSooner, IsNext, IsToldAt, AreJudgedTo, AreJudged}
@@ -41,7 +41,7 @@ module _ (p : Program) (f : Func) where
     none = λ e i o less at. absurd (none_below i less);
   }
 
-  told_on : (n : ℕ) (y : Told) → IsToldAt p f n y → IsToldAt p f (n + 1) y
+  told_on : (n : ℕ) (y : InstanceBlame) → IsToldAt p f n y → IsToldAt p f (n + 1) y
   told_on n y t = record { position = t.position; among = (let l = t.among in omega (arith, l)); at = t.at; first = t.first; alone = t.alone }
 
   module _ (n : ℕ) (o : Option ℕ) (at : slice_get (origins p f) n ≡ Some o) where
@@ -58,7 +58,7 @@ module _ (p : Program) (f : Func) where
         IsToldAt p f (n + 1) (record { origin = o; blame = b })
     told_here b here none = record { position = n; among = omega arith; at = at; first = here; alone = none }
 
-    more_none : (x : Option Told) → IsFirstBlame p f o None → AreJudgedTo p f n x → AreJudgedTo p f (n + 1) x
+    more_none : (x : Option InstanceBlame) → IsFirstBlame p f o None → AreJudgedTo p f n x → AreJudgedTo p f (n + 1) x
     more_none None here c = record {
       there = tt;
       first = so_far (λ i q. (s : Spot) (u : Tok) → IsFaultIn p (instance p f q) s u → ⊥) c.first (λ s u fault. here.first s u tt fault);
@@ -79,7 +79,7 @@ module _ (p : Program) (f : Func) where
       none = λ e. absurd (some_none e);
     }
 
-    more_kept : (y : Told) (b : Blame) → IsFirstBlame p f o (Some b) → IsNoLater (spot_of y.blame) (tok_of y.blame.tok) (spot_of b) (tok_of b.tok) →
+    more_kept : (y : InstanceBlame) (b : Blame) → IsFirstBlame p f o (Some b) → IsNoLater (spot_of y.blame) (tok_of y.blame.tok) (spot_of b) (tok_of b.tok) →
         AreJudgedTo p f n (Some y) → AreJudgedTo p f (n + 1) (Some y)
     more_kept y b here before c = record {
       there = told_on n y c.there;
@@ -88,7 +88,7 @@ module _ (p : Program) (f : Func) where
       none = λ e. absurd (some_none e);
     }
 
-    more_next : (y : Told) (b : Blame) → IsFirstBlame p f o (Some b) → IsNoLater (spot_of b) (tok_of b.tok) (spot_of y.blame) (tok_of y.blame.tok) →
+    more_next : (y : InstanceBlame) (b : Blame) → IsFirstBlame p f o (Some b) → IsNoLater (spot_of b) (tok_of b.tok) (spot_of y.blame) (tok_of y.blame.tok) →
         (IsNoLater (spot_of y.blame) (tok_of y.blame.tok) (spot_of b) (tok_of b.tok) → ⊥) →
         AreJudgedTo p f n (Some y) → AreJudgedTo p f (n + 1) (Some (record { origin = o; blame = b }))
     more_next y b here before never c = record {
@@ -99,7 +99,7 @@ module _ (p : Program) (f : Func) where
       none = λ e. absurd (some_none e);
     }
 
-    pub judged_more : (x r : Option Told) (b : Option Blame) → IsFirstBlame p f o b → IsNext x o b r → AreJudgedTo p f n x → AreJudgedTo p f (n + 1) r
+    pub judged_more : (x r : Option InstanceBlame) (b : Option Blame) → IsFirstBlame p f o b → IsNext x o b r → AreJudgedTo p f n x → AreJudgedTo p f (n + 1) r
     judged_more x r None first next c = subst (AreJudgedTo p f (n + 1)) (sym next) (more_none x first c)
     judged_more None r (Some b) first next c = subst (AreJudgedTo p f (n + 1)) (sym next) (more_first b first c)
     judged_more (Some y) r (Some b) first next c = subst (AreJudgedTo p f (n + 1)) (sym next.1) (by next.2)
@@ -111,34 +111,34 @@ module _ (p : Program) (f : Func) where
     pub untold_at : IsUntold p (instance p f o) → HasUntold p f
     untold_at u = record { origin = o; is = origin_is p f n o at; untold = u }
 
-  pub judged_ends : (n : ℕ) (x : Option Told) → length (origins p f) ≤ n → AreJudgedTo p f n x → AreJudged p f x
+  pub judged_ends : (n : ℕ) (x : Option InstanceBlame) → length (origins p f) ≤ n → AreJudgedTo p f n x → AreJudged p f x
   judged_ends n x past c = record {
     there = told x c.there;
     first = λ i o less at. c.first i o (omega (arith, less, past)) at;
     none = λ e i o less at. c.none e i o (omega (arith, less, past)) at;
   }
     where
-      told : (x : Option Told) → IfSome x (IsToldAt p f n) → IfSome x (IsToldAt p f (length (origins p f)))
+      told : (x : Option InstanceBlame) → IfSome x (IsToldAt p f n) → IfSome x (IsToldAt p f (length (origins p f)))
       told None t = t
       told (Some y) t = record { position = t.position; among = some_there (origins p f) t.position y.origin t.at; at = t.at; first = t.first; alone = t.alone }
 
   -- ---- all instances
 
-  module _ (x : Option Told) (c : AreJudged p f x) where
-    no_later : (y : Told) → x ≡ Some y → (o : Option ℕ) (q : Spot) (u : Tok) → IsOrigin p f o → IsFaultIn p (instance p f o) q u →
+  module _ (x : Option InstanceBlame) (c : AreJudged p f x) where
+    no_later : (y : InstanceBlame) → x ≡ Some y → (o : Option ℕ) (q : Spot) (u : Tok) → IsOrigin p f o → IsFaultIn p (instance p f o) q u →
         IsNoLater (spot_of y.blame) (tok_of y.blame.tok) q u
     no_later y is o q u origin fault =
         let i = origin_at p f o origin in
         (subst (AreJudged p f) is c).first i.0 o (some_there (origins p f) i.0 o i.1) i.1 q u fault
 
-    no_later_origin : (y : Told) → x ≡ Some y → (o : Option ℕ) → IsOrigin p f o → IsFaultIn p (instance p f o) (spot_of y.blame) (tok_of y.blame.tok) →
+    no_later_origin : (y : InstanceBlame) → x ≡ Some y → (o : Option ℕ) → IsOrigin p f o → IsFaultIn p (instance p f o) (spot_of y.blame) (tok_of y.blame.tok) →
         IsNoLaterOrigin y.origin o
     no_later_origin y is o origin fault =
         let there = (subst (AreJudged p f) is c).there in
         let i = origin_at p f o origin in
         ⊎_elim (λ early. absurd (there.alone i.0 o early i.1 fault)) (λ from. origin_later p f there.position i.0 y.origin o from there.at i.1) (cases_lt i.0 there.position)
 
-    pub first_of_all : (y : Told) → x ≡ Some y → AreFitIn p f → IsFirstOfAll p f y.origin y.blame.at (tok_of y.blame.tok) (kind_of y.blame.kind)
+    pub first_of_all : (y : InstanceBlame) → x ≡ Some y → AreFitIn p f → IsFirstOfAll p f y.origin y.blame.at (tok_of y.blame.tok) (kind_of y.blame.kind)
     first_of_all y is fit =
         let there = (subst (AreJudged p f) is c).there in
         let origin = origin_is p f there.position y.origin there.at in

@@ -5,8 +5,7 @@ use Rattle.vlt_core.specs.Core.{Tok}
 use Rattle.vlt_core.specs.Maps.{Row}
 use Rattle.vlt_core.specs.Found.{Ones, image}
 use Rattle.vlt_core.specs.Faults.{RowAt, IsMixed, IsUnwanted}
-use Rattle.vlt_core_laws.specs.Sweep.{Many, In}
-use Rattle.vlt_core_laws.proofs.Sweeping.{IsSameOnes}
+use Rattle.vlt_core_laws.specs.Sweep.{Many, In, IsSameOnes}
 use Rattle.vlt_faults.specs.Finding.Passes.{IsMoved}
 use Rattle.vlt_faults.proofs.OfFinding.Passing as passing
 use Rattle.vlt_faults.specs.declared.judge.blame.Blame.{Blame}

@@ -7,7 +7,7 @@ use Rattle.vlt_core.specs.Maps.{HeldMap}
 use Rattle.vlt_core.specs.Maps as maps
 use Rattle.vlt_core.specs.Flow.{Flow, step, choose, loop, switch, scope, focus, return, jump, Block, block, Stmts, done, next, Arms, no_arms, arm, size, size_block}
 use Rattle.vlt_core.specs.Found.{One, Ones, Has, images, out, to_next, head_of}
-use Rattle.vlt_core.specs.Faults.{Spot, SpotAtBlock, spots_block, IsMixed, IsUnwanted, IsNoLaterTok}
+use Rattle.vlt_core.specs.Faults.{Spot, FaultKind, SpotAtBlock, spots_block, IsMixed, IsUnwanted, IsNoLaterTok}
 use Rattle.vlt_core.specs.View.{tok_of}
 use Rattle.vlt_core_laws.specs.Sweep.{In, Stock, IsFoundIn, found_head, found_head_block, found_head_stmts, found_head_arms, found_exit, found_exit_block, found_exit_stmts, found_exit_arms}
 use Rattle.vlt_core_laws.proofs.Smooth.{smooth_images, smooth_form, smooth_heads}
@@ -22,7 +22,7 @@ use Rattle.vlt_keyset.specs.Held.{Statuses, map_of, HasPlace}
 use Rattle.vlt_faults.specs.declared.judge.blame.Blame.{Blame}
 use Rattle.vlt_faults.specs.declared.judge.extent.Extent.{Extent}
 use Rattle.vlt_faults.specs.declared.judge.tokens.Whole.{Whole}
-use Rattle.vlt_faults.specs.Judge.Blames.{spot_of, NoLaterThan, IsEarlier, TellsUnwanted, TellsMixed, FirstOfBlock}
+use Rattle.vlt_faults.specs.Judge.Blames.{spot_of, NoLaterThan, IsEarlier, IsFirstOf, TellsUnwanted, TellsMixed, FirstOfBlock}
 use Rattle.vlt_faults.specs.Judge.Extents.{IsBeyond, IsCount, AvoidsBlock, IsExtent}
 use Rattle.vlt_faults.specs.Judge.Faulty.{HasNoNumber, many_statements, many_spots, names_last_key, names_last_var}
 use Rattle.vlt_faults.specs.Judge.Judging.{HasRoom, FittingBlock}
@@ -113,6 +113,11 @@ told_of_one s h t (Some b) f = subst (λ u. SpotAtBlock (TellsUnwanted (kind_of 
 
 either_told : (s : Block) (h : HeldMap) (x y r : Option Blame) (P : Blame → Type 0) → (r ≡ x) ⊎ (r ≡ y) → IfSome x P → IfSome y P → IfSome r P
 either_told s h x y r P e f g = ⊎_elim (λ e. subst (λ o. IfSome o P) (sym e) f) (λ e. subst (λ o. IfSome o P) (sym e) g) e
+
+-- what is told of a token is of the token
+pub first_own : (t : Tok) (x : Option Blame) (F : Spot → Type 0) (G : FaultKind → Spot → Type 0) → IsFirstOf t x F G → IfSome x (λ b. tok_of b.tok ≡ t)
+first_own t None F G q = tt
+first_own t (Some b) F G q = q.there.0
 
 pub over_one : (s : Block) (h : HeldMap) (t : Tok) (y : Option Blame) → FirstOfBlock t 0 s (Has (h t)) y → IsTabled s h t → IsFirstOver (λ u. u ≡ t) s h y
 over_one s h t y f k = record {

@@ -5,11 +5,10 @@ use Rattle.vlt_core.specs.Maps.{Row, away_row}
 use Rattle.vlt_core.specs.Flow.{choose, loop, switch, focus, Block, block, Stmts, Arms, no_arms, arm, end_of, size_block}
 use Rattle.vlt_core.specs.Found.{Ones, images, out, out_block, out_stmts, to_next, head_of}
 use Rattle.vlt_core.specs.Faults.{Spot, head_spot, join_spot, spots_block, spots_stmts, spots_arms, IsMixed, IsUnwanted, FaultKind, SpotAtArms}
-use Rattle.vlt_core_laws.specs.Sweep.{Many, In, IsImage}
+use Rattle.vlt_core_laws.specs.Sweep.{Many, In, IsImage, IsSameOnes, FitsBlock, FitsStmts, FitsArms}
 use Rattle.vlt_core_laws.proofs.Congruent.{mixed_of_found}
 use Rattle.vlt_core_laws.proofs.FlowFitting.{same_fits_block}
 use Rattle.vlt_core_laws.proofs.Smooth.{smooth_images, smooth_block, smooth_stmts}
-use Rattle.vlt_core_laws.proofs.Sweeping.{IsSameOnes, FitsBlock, FitsStmts, FitsArms}
 use Rattle.vlt_faults.specs.declared.judge.blame.Blame.{Blame}
 use Rattle.vlt_faults.specs.Judge.Blames.{IsEarlier, TellsUnwanted, TellsMixed, FirstOfRows, FirstOfJoin, FirstOfForm, FirstOfBlock, FirstOfStmts, FirstOfArms}
 use Rattle.vlt_faults.proofs.OfJudge.Firsts.{first_sum, first_same}

@@ -11,8 +11,7 @@ use Rattle.vlt_rows.specs.declared.tree.FlowStmt.{FlowStmt}
 use Rattle.vlt_rows.specs.declared.tree.FlowArm.{FlowArm, out-FlowArm}
 use Rattle.vlt_rows.specs.FlowView.{flow_view, block_view, arms_view, stmts_view, rows_view}
 use Rattle.vlt_rows.proofs.Views.{stmt_parts, arm_parts}
-use Rattle.vlt_core_laws.specs.Sweep.{In}
-use Rattle.vlt_core_laws.proofs.Sweeping.{IsSameOnes, FitsStmts, FitsArms}
+use Rattle.vlt_core_laws.specs.Sweep.{In, IsSameOnes, FitsStmts, FitsArms}
 use Rattle.vlt_faults.specs.declared.finding.ones.Ones as D
 use Rattle.vlt_faults.specs.Finding.Ones.{many_of}
 use Rattle.vlt_faults.specs.Finding.Marks.{Marks, at as table}

@@ -12,7 +12,7 @@ use Rattle.vlt_core.specs.Bodies.{body_flow}
 use Rattle.vlt_core.specs.Derives.{start_map}
 use Rattle.vlt_core.specs.Local.{Notes, IsLocalBlock, IsLocalIn}
 use Rattle.vlt_core.specs.Found.{One, one_absent, one_held, one_lent, one_full, Has}
-use Rattle.vlt_core.specs.Faults.{IsMixed, IsUnwanted, TellsRow, TellsJoin, IsFirstIn, StandsFor}
+use Rattle.vlt_core.specs.Faults.{IsMixed, IsUnwanted, TellsRow, TellsJoin, IsFirstIn, StandsFor, SpotAtBlock, IsFaultIn, IsToldOf}
 use Rattle.vlt_core.specs.View.{tok_of}
 use Rattle.vlt_core.specs.FaultView.{kind_of}
 use Rattle.vlt_core_laws.specs.Faulted.{HasFaultBlock}
@@ -28,7 +28,7 @@ use Rattle.vlt_faults.specs.declared.judge.blame.Blame.{Blame}
 use Rattle.vlt_faults.specs.Judge.Blames.{spot_of, TellsUnwanted, TellsMixed}
 use Rattle.vlt_faults.specs.Judge.Faulty.{IsFitIn}
 use Rattle.vlt_faults.specs.Judge.Instances.{All}
-use Rattle.vlt_faults.specs.Judge.Overs.{IsFirstOver}
+use Rattle.vlt_faults.specs.Judge.Overs.{IsFirstOver, AreBounds}
 use Rattle.vlt_faults.proofs.OfJudge.Clean.{clean_unmixed, clean_block}
 use Rattle.vlt_faults.proofs.OfJudge.Parts.{stands_absent, stands_full, stands_lent}
 
@@ -111,8 +111,24 @@ first_at p f b over fit =
       refl,
     )
 
-pub over_in : (p : Program) (f : Func) (s : Block) (h : HeldMap) (x : Option Blame) → s ≡ body_flow p f → h ≡ start_map p f → IsFirstOver All s h x → IsFirstOver All (body_flow p f) (start_map p f) x
-over_in p f s h x e d o = subst (λ s. IsFirstOver All s (start_map p f) x) e (subst (λ h. IsFirstOver All s h x) d o)
+-- what is told of a spot is there, and told as it is
+pub told_at : (p : Program) (f : Func) (b : Blame) →
+    SpotAtBlock (TellsUnwanted (kind_of b.kind)) (TellsMixed (kind_of b.kind)) (spot_of b) (tok_of b.tok) 0 (body_flow p f) (Has (start_map p f (tok_of b.tok))) →
+    IsFitIn p f → IsFaultIn p f (spot_of b) (tok_of b.tok) × IsToldOf p f (kind_of b.kind) (spot_of b) (tok_of b.tok)
+told_at p f b there fit =
+    let kind = kind_of b.kind in
+    let s = body_flow p f in
+    let S = Has (start_map p f (tok_of b.tok)) in
+    let good = fit.start.good (tok_of b.tok) in (
+      clean_block (TellsUnwanted kind) IsUnwanted (TellsMixed kind) IsMixed (λ r T c x. x.0) (λ T c x. x.0) (spot_of b) (tok_of b.tok) s false 0 S fit.fit.tame fit.fit.filled good there,
+      clean_block (TellsUnwanted kind) (TellsRow kind) (TellsMixed kind) (TellsJoin kind) (λ r T c x. x.1 (clean_unmixed T c x.0.1)) (λ T c x. x.1 c.one) (spot_of b) (tok_of b.tok) s false 0 S fit.fit.tame fit.fit.filled good there,
+    )
+
+pub over_in : (A : Tok → Type 0) (p : Program) (f : Func) (s : Block) (h : HeldMap) (x : Option Blame) → s ≡ body_flow p f → h ≡ start_map p f → IsFirstOver A s h x → IsFirstOver A (body_flow p f) (start_map p f) x
+over_in A p f s h x e d o = subst (λ s. IsFirstOver A s (start_map p f) x) e (subst (λ h. IsFirstOver A s h x) d o)
+
+pub bounds_in : (p : Program) (f : Func) (s : Block) (h : HeldMap) (keys vars : ℕ) → s ≡ body_flow p f → h ≡ start_map p f → AreBounds s h keys vars → AreBounds (body_flow p f) (start_map p f) keys vars
+bounds_in p f s h keys vars e d o = subst (λ s. AreBounds s (start_map p f) keys vars) e (subst (λ h. AreBounds s h keys vars) d o)
 
 -- the tables of each token, and the notes that read them
 module _ (s : Block) (h : HeldMap) (over : IsFirstOver All s h None) where

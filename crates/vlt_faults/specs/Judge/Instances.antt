@@ -7,7 +7,7 @@ use Rattle.vlt_core.specs.Derives.{start_map}
 use Rattle.vlt_core.specs.Faults.{Spot, IsNoLater, IsFaultIn}
 use Rattle.vlt_core.specs.View.{tok_of}
 use Rattle.vlt_faults.specs.declared.judge.blame.Blame.{Blame}
-use Rattle.vlt_faults.specs.declared.judge.Told.{Told}
+use Rattle.vlt_faults.specs.declared.judge.InstanceBlame.{InstanceBlame}
 use Rattle.vlt_faults.specs.Judge.Blames.{spot_of}
 use Rattle.vlt_faults.specs.Judge.Overs.{IsFirstOver}
 
@@ -22,19 +22,19 @@ abbrev pub IsBefore : Blame → Blame → Type 0
 IsBefore a b = IsNoLater (spot_of a) (tok_of a.tok) (spot_of b) (tok_of b.tok)
 
 -- the first of two, and of two at one spot the one before
-abbrev pub IsSooner : (y z r : Told) → Type 0
+abbrev pub IsSooner : (y z r : InstanceBlame) → Type 0
 IsSooner y z r =
     ((r ≡ y) × IsBefore y.blame z.blame) ⊎
     ((r ≡ z) × (IsBefore z.blame y.blame × (IsBefore y.blame z.blame → ⊥)))
 
 -- the first one so far, or the next instance's
-abbrev pub IsNext : Option Told → Option ℕ → Option Blame → Option Told → Type 0
+abbrev pub IsNext : Option InstanceBlame → Option ℕ → Option Blame → Option InstanceBlame → Type 0
 IsNext x o None r = r ≡ x
 IsNext None o (Some b) r = r ≡ Some (record { origin = o; blame = b })
-IsNext (Some y) o (Some b) r = (z : Told) × (r ≡ Some z) × IsSooner y (record { origin = o; blame = b }) z
+IsNext (Some y) o (Some b) r = (z : InstanceBlame) × (r ≡ Some z) × IsSooner y (record { origin = o; blame = b }) z
 
 -- This is told of one of the first n instances, and none before that one is faulty at its spot.
-pub record IsToldAt (p : Program) (f : Func) (n : ℕ) (y : Told) : Type 0 where
+pub record IsToldAt (p : Program) (f : Func) (n : ℕ) (y : InstanceBlame) : Type 0 where
   pub position : ℕ
   pub among : position < n
   pub at : slice_get (origins p f) position ≡ Some y.origin
@@ -43,17 +43,17 @@ pub record IsToldAt (p : Program) (f : Func) (n : ℕ) (y : Told) : Type 0 where
       IsFaultIn p (instance p f o) (spot_of y.blame) (tok_of y.blame.tok) → ⊥
 
 -- no later than the spot for the token
-abbrev pub ToldBefore : Option Told → Spot → Tok → Type 0
+abbrev pub ToldBefore : Option InstanceBlame → Spot → Tok → Type 0
 ToldBefore None q u = ⊥
 ToldBefore (Some y) q u = IsNoLater (spot_of y.blame) (tok_of y.blame.tok) q u
 
 -- This is the first of the faults of the first n instances; without one each of them has none.
-pub record AreJudgedTo (p : Program) (f : Func) (n : ℕ) (x : Option Told) : Type 0 where
+pub record AreJudgedTo (p : Program) (f : Func) (n : ℕ) (x : Option InstanceBlame) : Type 0 where
   pub there : IfSome x (IsToldAt p f n)
   pub first : (i : ℕ) (o : Option ℕ) → i < n → slice_get (origins p f) i ≡ Some o → (q : Spot) (u : Tok) →
       IsFaultIn p (instance p f o) q u → ToldBefore x q u
   pub none : x ≡ None → (i : ℕ) (o : Option ℕ) → i < n → slice_get (origins p f) i ≡ Some o → IsFirstBlame p f o None
 
 -- the same of all instances
-abbrev pub AreJudged : Program → Func → Option Told → Type 0
+abbrev pub AreJudged : Program → Func → Option InstanceBlame → Type 0
 AreJudged p f x = AreJudgedTo p f (length (origins p f)) x

@@ -4,8 +4,7 @@ use Rattle.vlt_core.specs.Core.{Tok}
 use Rattle.vlt_core.specs.Flow.{Flow, Block, Stmts, Arms, size, size_block, size_stmts, size_arms}
 use Rattle.vlt_core.specs.Found.{One, Ones, to_next, out, out_block, out_stmts}
 use Rattle.vlt_core.specs.Faults.{spots, spots_block, spots_stmts, spots_arms}
-use Rattle.vlt_core_laws.specs.Sweep.{In}
-use Rattle.vlt_core_laws.proofs.Sweeping.{IsSameOnes, Fits, FitsBlock, FitsStmts, FitsArms}
+use Rattle.vlt_core_laws.specs.Sweep.{In, IsSameOnes, Fits, FitsBlock, FitsStmts, FitsArms}
 use Rattle.vlt_faults.specs.Finding.Ones.{many_of}
 use Rattle.vlt_faults.specs.Finding.Marks.{Marks, at}
 use Rattle.vlt_faults.specs.declared.judge.blame.Blame.{Blame}

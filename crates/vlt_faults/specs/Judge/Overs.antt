@@ -52,3 +52,8 @@ pub record IsWhole (s : Block) (h : HeldMap) (e : Whole) : Type 0 where
 pub record IsNumbered (h : Statuses) : Type 0 where
   pub keys : length h.keys < 2 ^ 32
   pub vars : length h.vars < 2 ^ 32
+
+-- no row of the body names a token beyond the numbers, and each of these is absent at the start
+pub record AreBounds (s : Block) (h : HeldMap) (keys vars : ℕ) : Type 0 where
+  pub avoids : (t : Tok) → IsBeyond keys vars t → AvoidsBlock t s
+  pub absent : (t : Tok) → IsBeyond keys vars t → h t ≡ maps.absent

@@ -15,7 +15,7 @@ judge-requires c =
 
 pub returns-clause-first : goal.returns-clause-first
 returns-clause-first c =
-    IfOk-weaker {Y = RowError} _ _ _ (λ x q. over_in (program_of c.args.p.now) (instance (program_of c.args.p.now) (func_of c.args.f.now) c.args.origin) _ _ x c.in_ok-flow.ensures c.in_ok-start.ensures.map q) c.judge.ensures.first
+    IfOk-weaker {Y = RowError} _ _ _ (λ x q. over_in _ (program_of c.args.p.now) (instance (program_of c.args.p.now) (func_of c.args.f.now) c.args.origin) _ _ x c.in_ok-flow.ensures c.in_ok-start.ensures.map q) c.judge.ensures.first
 
 pub returns-clause-unfit : goal.returns-clause-unfit
 returns-clause-unfit c = unfit_through _ (λ u. no_number (subst HasNoNumber c.in_ok-flow.ensures u)) c.judge.ensures.unfit

@@ -14,7 +14,7 @@ loop-origin-preserved c =
     let lt : c.loop-origin.origin-index < length c.as_slice-origin-items.result.now = omega (arith, c.loop-origin-test.true) in
     judged_more (program_of c.args.p.now) (func_of c.args.f.now) _ _
     (listed_at (program_of c.args.p.now) (func_of c.args.f.now) _ _ _ (c.as_slice-origin-items.ensures ∙ c.in_ok-origins.ensures) lt (get_or_default _ _ _ _ lt)) _ _ _
-    c.in_ok-blame_in.ensures.first c.first_told-first.ensures c.loop-origin.invariant
+    c.in_ok-blame_in.ensures.first c.first_blame-first.ensures c.loop-origin.invariant
 
 pub returns-clause-first : goal.returns-clause-first
 returns-clause-first c =

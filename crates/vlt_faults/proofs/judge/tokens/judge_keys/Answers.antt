@@ -9,7 +9,7 @@ pub loop-key-init : goal.loop-key-init
 loop-key-init c = over_none _ _ _ no_key
 
 pub loop-key-preserved : goal.loop-key-preserved
-loop-key-preserved c = over_both _ _ _ _ _ _ _ _ c.loop-key.invariant c.in_ok-judge_token.ensures c.earlier-first.ensures (key_next c.loop-key.key)
+loop-key-preserved c = over_both _ _ _ _ _ _ _ _ c.loop-key.invariant c.in_ok-judge_token.ensures.first c.earlier-first.ensures (key_next c.loop-key.key)
 
 pub returns : goal.returns
 returns c = subst (λ n. IsFirstOver (IsKeyBelow n) (block_view c.args.body.now) (map_of c.args.start.now) c.loop-key.first) (omega (arith, c.loop-key-test.false)) c.loop-key.invariant

@@ -9,7 +9,7 @@ pub loop-var-init : goal.loop-var-init
 loop-var-init c = over_none _ _ _ no_var
 
 pub loop-var-preserved : goal.loop-var-preserved
-loop-var-preserved c = over_both _ _ _ _ _ _ _ _ c.loop-var.invariant c.in_ok-judge_token.ensures c.earlier-first.ensures (var_next c.loop-var.var)
+loop-var-preserved c = over_both _ _ _ _ _ _ _ _ c.loop-var.invariant c.in_ok-judge_token.ensures.first c.earlier-first.ensures (var_next c.loop-var.var)
 
 pub returns : goal.returns
 returns c = subst (λ n. IsFirstOver (IsVarBelow n) (block_view c.args.body.now) (map_of c.args.start.now) c.loop-var.first) (omega (arith, c.loop-var-test.false)) c.loop-var.invariant

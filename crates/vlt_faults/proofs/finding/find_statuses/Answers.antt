@@ -1,5 +1,5 @@
 use Rattle.std.proofs.Common.{sym, ◌∙◌, arith}
-use Rattle.vlt_faults.proofs.finding.found.Goals as goal
+use Rattle.vlt_faults.proofs.finding.find_statuses.Goals as goal
 
 pub spread-requires : goal.spread-requires
 spread-requires c =
