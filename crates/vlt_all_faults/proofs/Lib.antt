@@ -1,0 +1,4 @@
+pub mod Avoided
+pub mod Tokens
+pub mod Lists
+pub mod Bounds
