@@ -91,7 +91,7 @@ joins (Err (exceeded n)) text same = absurd (not_zero 4 (status_of text _ same))
 joins (Err (broken rule place)) text none = absurd none
 joins (Ok t) text (p, gives, emitted) = record { tree = t; told = refl; program = p; gives = gives; emitted = emitted }
 
-same_program : (p q : Program) → ◌≡◌ {A = Result Program elab.Told} (Ok p) (Ok q) → p ≡ q
+same_program : (p q : Program) → ◌≡◌ {A = Result Program elab.Refused} (Ok p) (Ok q) → p ≡ q
 same_program p q e = cc
 
 module _ (law : ProgramsAreFit) (right : GoRight) (laws : Laws) (modules : LinkLaws) where

@@ -5,7 +5,7 @@ use Rattle.vlt_core.specs.Derives.{IsAccepted}
 use Rattle.vlt_io.specs.Outside.{Files, Grew}
 use Rattle.c_syntax.specs.Reading.{IsCProgramOf}
 use Rattle.c_lower.specs.Lowering.{lowered}
-use Rattle.c_lower_accepted.specs.Accepted.{RunsAlike, IsDefined}
+use Rattle.c_lower_accepted.specs.Promise.{RunsAlike, IsDefined}
 use Rattle.cert_format.specs.Notes.{Note}
 use Rattle.cert_least_laws.specs.LeastNotes.{IsLeastCertificate}
 use Rattle.cert_format.specs.Places.{unplaced_program}

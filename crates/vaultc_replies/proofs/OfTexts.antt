@@ -5,14 +5,14 @@ use Rattle.vlt_core.specs.Core.{Program}
 use Rattle.vlt_kinds_types.specs.declared.names.found.Refusal.{Refusal}
 use Rattle.vlt_kinds_types.specs.Kinds.{Kinds}
 use Rattle.vlt_kinds.specs.Tables.{kinds_told}
-use Rattle.vlt_elaboration.specs.Elaboration.{Told, broken}
+use Rattle.vlt_elaboration.specs.Elaboration.{Refused, broken}
 use Rattle.vlt_elaboration.specs.Programs.{with_kinds, program_told}
 use Rattle.vlt_fit_laws.specs.Fit.{IsTextTree}
 use Rattle.cert_text_laws.specs.Texts.{IsProgramOfTexts}
 use Rattle.cert_text_laws.proofs.InTexts.{spelled_in, short_in}
 use Rattle.vaultc_runs.specs.Texts.{IsTextOf}
 
-ok_or_err : (r : Told) (p : Program) → ◌≡◌ {A = Result Program Told} (Err r) (Ok p) → ⊥
+ok_or_err : (r : Refused) (p : Program) → ◌≡◌ {A = Result Program Refused} (Err r) (Ok p) → ⊥
 ok_or_err r p e = cc
 
 module _ (bytes : List ℕ) (t : Tree) (p : Program) (reads : IsTextOf t bytes) (tree : IsTextTree t) where

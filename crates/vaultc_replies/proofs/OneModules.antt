@@ -59,7 +59,7 @@ module _ (views : ViewsHaveOneVerdict) where
         (view_of_texts t u (text_tree trees i.bytes t reads) (text_tree trees m.bytes u reads_m)) c d z o) a b x y) r q is_r is_q
 
     module _ (certificates : LeastCertificatesAreOne) where
-      same_program : (p o : Program) → ◌≡◌ {A = Result Program elab.Told} (Ok p) (Ok o) → p ≡ o
+      same_program : (p o : Program) → ◌≡◌ {A = Result Program elab.Refused} (Ok p) (Ok o) → p ≡ o
       same_program p o e = cc
 
       one_joined : (x : Result Tree Told) (r q : Reply) → IsReplyToJoined x r → IsReplyToJoined x q → r ≡ q

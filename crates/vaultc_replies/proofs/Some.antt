@@ -18,7 +18,7 @@ use Rattle.vlt_host_meaning.specs.Calls.{HostCall}
 use Rattle.vlt_host_meaning.specs.HostRun.{HostRan, host_run}
 use Rattle.vlt_host.specs.CallsFile.{calls_of}
 use Rattle.vlt_host_laws.specs.Promise.{is_host_fault, NeverGoesWrongForHosts}
-use Rattle.vlt_host.specs.Machine.Callable.{slots_needed_by_host}
+use Rattle.vlt_host_meaning.specs.Widths.{slots_needed_by_host}
 use Rattle.vlt_host.specs.Runs.Ends.{IsTooWideForHost}
 use Rattle.vlt_meaning.specs.World.{Ran, is_fault, event_text}
 use Rattle.vlt_interp.specs.Runs.Ends.{IsTooWide}

@@ -10,7 +10,8 @@ use Rattle.vaultc_words.specs.Commands.{Command, names_files}
 use Rattle.vaultc_words.specs.Sources.{Read, had, unread, too_long, sources_of, read_in, MayRead}
 use Rattle.vaultc_runs.specs.Finishes.{WroteReply, WrotePart, Finishes}
 use Rattle.vaultc_runs.specs.Lines.{Reply, reply, long_reply}
-use Rattle.vaultc_replies.specs.Replies.{IsReplyToRead, IsReplyToCommand, IsInside, MayReply, IsUnread}
+use Rattle.vaultc_replies.specs.Replies.{IsReplyToRead, IsReplyToCommand, IsInside, MayReply}
+use Rattle.vaultc_replies.specs.Unread.{IsUnread}
 use Rattle.vaultc_words.proofs.Reading.{IsToldAs, told_as, may_fail}
 use Rattle.vaultc_replies.proofs.OwnReplies.{own_reply}
 use Rattle.vaultc_replies.proofs.Single.{Laws, one_status}

@@ -5,6 +5,7 @@ pub mod Emitted
 pub mod Verifying
 pub mod Loads
 pub mod Modules
+pub mod Unread
 pub mod Replies
 pub mod Promised
 pub mod Hosted

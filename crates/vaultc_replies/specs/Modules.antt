@@ -43,7 +43,7 @@ abbrev pub rule_reply : (interface own : File) → (rule : ℕ) → Place → Re
 rule_reply i m rule place =
     let f = file_at i m place in in_file f.name (reply NO_PROGRAM (kind_line f.bytes rule place.at))
 
-abbrev pub refused_reply : (interface own : File) → elab.Told → Reply
+abbrev pub refused_reply : (interface own : File) → elab.Refused → Reply
 refused_reply i m (elab.broken rule at) = rule_reply i m rule (place_of at)
 refused_reply i m (elab.exceeded n) = in_file m.name (over_reply n)
 

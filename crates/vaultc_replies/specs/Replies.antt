@@ -1,13 +1,13 @@
 -- What each command replies, in the order in which commands refuse: the words, the files with their sizes, the text, the program, the run.
-use Rattle.std.specs.Prelude.{◌≡◌, ◌≢◌, ℕ, Bool, List, ◌++◌, Option, Some, None, ◌⊎◌}
-use Rattle.vlt_io.specs.Outside.{Files, MayFail}
+use Rattle.std.specs.Prelude.{◌≡◌, ◌≢◌, ℕ, List, ◌++◌, Option, Some, None, ◌⊎◌}
+use Rattle.vlt_io.specs.Outside.{Files}
 use Rattle.vlt_io.specs.declared.store.Store.{Ghosts}
 use Rattle.vlt_syntax.specs.Tree.{Tree}
 use Rattle.vlt_printer.specs.Layout.{layout}
 use Rattle.vaultc_runs.specs.declared.status.TheConstants.{DONE, UNREAD, SINK_FAILED, NO_MEMORY, NOT_ACCEPTED}
 use Rattle.vaultc_words.specs.Commands.{Command, check, explain, run, fmt, emit, verify, crun, load, host, modules, link, command_of, names_files}
-use Rattle.vaultc_words.specs.Sources.{Read, had, unread, too_long, sources_of, read_in, MayRead, bytes_at}
-use Rattle.vaultc_runs.specs.Lines.{Reply, reply, usage_reply, unread_reply, long_reply}
+use Rattle.vaultc_words.specs.Sources.{Read, sources_of, read_in, MayRead, bytes_at}
+use Rattle.vaultc_runs.specs.Lines.{Reply, reply, usage_reply}
 use Rattle.vaultc_runs.specs.OverFiles.{IsReplyOver}
 use Rattle.vaultc_runs.specs.Texts.{Refusal, AreRefused, IsTextOf, refusal_reply}
 use Rattle.vlt_base.specs.Sure.{Surely}
@@ -50,13 +50,7 @@ IsReplyToTree (check file) text t r = IsReplyToCheck text t r
 IsReplyToTree (explain file) text t r = IsReplyToExplain text t r
 IsReplyToTree (fmt file) text t r = r ≡ reply DONE (layout t)
 IsReplyToTree (emit file) text t r = IsReplyToEmit text t r
-IsReplyToTree (verify file) text t r = ⊥
-IsReplyToTree (run file taken) text t r = ⊥
-IsReplyToTree (crun file taken) text t r = ⊥
-IsReplyToTree (load n) text t r = ⊥
-IsReplyToTree (host file calls taken) text t r = ⊥
-IsReplyToTree (modules interface file) text t r = ⊥
-IsReplyToTree (link interface first second) text t r = ⊥
+IsReplyToTree _ text t r = ⊥
 
 -- ---- bytes
 
@@ -136,8 +130,3 @@ IsInside status = (status ≢ UNREAD) × (status ≢ SINK_FAILED) × (status ≢
 abbrev pub MayReply : {S : Type 0} (g : Ghosts S) (old new : S) → Option Command → Reply → Type 0
 MayReply g old new None r = r ≡ usage_reply
 MayReply g old new (Some command) r = (x : Read) × MayRead g old new (sources_of command) x × IsReplyToRead command x r
-
--- one of the command's files wasn't read: it is missing, or reading it failed
-abbrev pub IsUnread : {S : Type 0} (g : Ghosts S) (old new : S) → Command → Reply → Type 0
-IsUnread g old new command r =
-    (name : List ℕ) × MayRead g old new (sources_of command) (unread name) × MayFail (g.files old) name (g.faults old) (g.faults new) × (r ≡ unread_reply name)

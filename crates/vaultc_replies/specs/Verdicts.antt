@@ -4,7 +4,7 @@ use Rattle.vlt_syntax.specs.Tree.{Tree}
 use Rattle.vlt_core.specs.Core.{Func, Program}
 use Rattle.vlt_core.specs.Faults.{FlowFault}
 use Rattle.vlt_core.specs.Witness.{Choice, IsWitness}
-use Rattle.vlt_elaboration.specs.Elaboration.{Told, broken, exceeded}
+use Rattle.vlt_elaboration.specs.Elaboration.{Refused, broken, exceeded}
 use Rattle.vlt_verdict.specs.Verdicts.{Verdict, refused, faulty, accepted}
 use Rattle.vlt_reports.specs.Accepted.{accepted_line}
 use Rattle.vlt_reports.specs.Reports.{kind_line, fault_line, instance_text, paths_text}
@@ -13,7 +13,7 @@ use Rattle.vaultc_replies.specs.Variables.{variable_in}
 use Rattle.vaultc_runs.specs.Lines.{Reply, reply, over_reply}
 
 -- a rule on names and types at its place in the text, or a limit
-abbrev pub told_reply : (text : List ℕ) → Told → Reply
+abbrev pub told_reply : (text : List ℕ) → Refused → Reply
 told_reply text (broken rule at) = reply NO_PROGRAM (kind_line text rule at)
 told_reply text (exceeded n) = over_reply n
 

@@ -25,7 +25,8 @@ use Rattle.vlt_sound_worlds.specs.Agrees.{Waiting, Context, WaitsWell, scene, st
 use Rattle.vlt_sound_worlds.specs.Typed.{IsDeclared, IsTyped}
 use Rattle.vlt_sound_calls.specs.Returned.{is_lasting, IsKept, FitsResult, Returned}
 use Rattle.vlt_sound_calls.specs.Heads.{HasHead}
-use Rattle.vlt_sound_calls.specs.Callee.{Among, caller_key, IsParamKey, IsCall, without, with_waiting, callee_context}
+use Rattle.vlt_sound_calls.specs.Callee.{caller_key, IsParamKey, IsCall, without, with_waiting, callee_context}
+use Rattle.vlt_sound_calls.specs.Among.{Among}
 use Rattle.vlt_sound_calls.proofs.Contexts.{kept_held}
 use Rattle.vlt_sound_calls.proofs.Entries.{same_entry, sought}
 use Rattle.vlt_sound_calls.proofs.Pairs.{AmongBoth, among_filtered, filtered_among, number_entry, entry_number, both_kept, both_entry, both_number, holders_length}
@@ -374,6 +375,9 @@ module _ {p : Program} {i : ℕ} {g : Func} (head : HasHead p g) (typed : IsType
     held = λ n h. is_held_now n (holds_owner back n h);
     keeps = λ n h free. owner_holds back n (kept_now n h free);
     gets = λ e n new. owner_holds back n (got_now e n new);
+    made = λ e j new.
+        let r = entry_number p g 1 left.names (look w.objects) es ns left.kept e (filtered_among is_held_after g.clause e j (new_is_after e new)) in
+        (r.0, record { among = j; new = new; given = (new_number e r.0 r.1 new).given });
     states = λ e n is after.
         let b = gives_back e n is.among after is.old is.stands in
         left_in e n is.among (subst (λ s. IsTrue (after_set p g e s)) (sym (back_state n)) (is_kept e n b).state);

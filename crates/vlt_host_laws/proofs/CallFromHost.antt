@@ -26,7 +26,8 @@ use Rattle.vlt_sound_worlds.proofs.Starting.{has_left, has_right, has_in}
 use Rattle.vlt_sound_worlds.specs.Members.{In}
 use Rattle.vlt_sound_worlds.proofs.Members.{in_left, in_right}
 use Rattle.vlt_sound_calls.specs.Heads.{HasHead}
-use Rattle.vlt_sound_calls.specs.Callee.{Among, AreApartBy, caller_key, IsParamKey, IsCall}
+use Rattle.vlt_sound_calls.specs.Callee.{AreApartBy, caller_key, IsParamKey, IsCall}
+use Rattle.vlt_sound_calls.specs.Among.{Among}
 use Rattle.vlt_sound_calls.proofs.Entries.{same_entry}
 use Rattle.vlt_sound_calls.proofs.Pairs.{filtered_among}
 use Rattle.vlt_sound_calls.proofs.LeavingLaws.{entry_has}

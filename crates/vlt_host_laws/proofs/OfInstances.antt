@@ -19,7 +19,8 @@ use Rattle.vlt_sound_worlds.proofs.Empty.{both_so}
 use Rattle.vlt_sound_worlds.specs.Typed.{IsTyped}
 use Rattle.vlt_sound_calls.specs.Heads.{HasHead}
 use Rattle.vlt_sound_calls.specs.Bounds.{HasBound}
-use Rattle.vlt_sound_calls.specs.Callee.{Among, caller_key}
+use Rattle.vlt_sound_calls.specs.Callee.{caller_key}
+use Rattle.vlt_sound_calls.specs.Among.{Among}
 use Rattle.vlt_sound_calls.proofs.Pairs.{among_filtered, filtered_among}
 use Rattle.vlt_sound_calls.proofs.Instanced.{is_new_of}
 use Rattle.vlt_sound_calls.proofs.Narrowing.{bound_entry}
@@ -308,6 +309,9 @@ module _ {p : Program} {i : ℕ} {g : Func} (head : HasHead p g) (typed : IsType
           (c.held n h);
       keeps = λ n h free. c.keeps n h (λ t. free (taken_here n t));
       gets = λ e n new. c.gets (made p g o e) n (new_there e n new);
+      made = λ e j new.
+          let m = c.made (made p g o e) (made_among p g o g.clause e j) (is_new_of p g o e ∙ new) in
+          (m.0, record { among = j; new = new; given = m.1.given });
       states = λ e n x after.
           left_in e n x (c.states (made p g o e) n (entry_there e n x) (after_of p g o e ∙ after));
       new_states = λ e n new. new_in e n new (c.new_states (made p g o e) n (new_there e n new));

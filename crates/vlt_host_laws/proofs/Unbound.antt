@@ -5,7 +5,7 @@ use Rattle.vlt_core.specs.Core.{Mode, kept, taken, given, fresh, up_to, Entry, F
 use Rattle.vlt_core.specs.Instances.{Bound, bound_at, or_else, bound_in, mode_of_instance, entry_of_instance, instance}
 use Rattle.vlt_meaning.specs.World.{Object}
 use Rattle.vlt_meaning.specs.Calls.{state_under}
-use Rattle.vlt_sound_calls.specs.Callee.{Among}
+use Rattle.vlt_sound_calls.specs.Among.{Among}
 use Rattle.vlt_host_meaning.specs.Calls.{Argument}
 use Rattle.vlt_host_meaning.specs.HostFrame.{host_frame}
 use Rattle.vlt_host_meaning.specs.Permitted.{host_keys}

@@ -7,7 +7,7 @@ use Rattle.vlt_meaning.specs.World.{reference, Value, one, Object, World, is_fau
 use Rattle.vlt_meaning.specs.Externals.{is_taken}
 use Rattle.vlt_meaning.specs.Run.{start}
 use Rattle.vlt_sound_worlds.specs.Look.{look}
-use Rattle.vlt_sound_calls.specs.Callee.{Among}
+use Rattle.vlt_sound_calls.specs.Among.{Among}
 use Rattle.vlt_host_meaning.specs.Calls.{Argument, HostCall}
 use Rattle.vlt_host_meaning.specs.HostFrame.{host_holds}
 use Rattle.vlt_host_meaning.specs.Permitted.{host_keys, is_permitted}
@@ -62,6 +62,8 @@ pub record ChangesByClause (p : Program) (f : Func) (args : List Argument) (resu
       (Holds old n × (IsTaken f args old n → ⊥)) ⊎ ((e : Entry) × IsNewObject f result e n)
   pub keeps : (n : ℕ) → Holds old n → (IsTaken f args old n → ⊥) → Holds new n
   pub gets : (e : Entry) (n : ℕ) → IsNewObject f result e n → Holds new n
+  -- of each new entry it gives the object
+  pub made : (e : Entry) → Among e f.clause → is_new e ≡ true → (n : ℕ) × IsNewObject f result e n
   -- objects of entries that are held after are in the states that the clause says
   pub states : (e : Entry) (n : ℕ) → IsEntryOf f args old e n → is_held_after e ≡ true →
       IsLeftIn p f e e.mode (look old n).state (look new n).state

@@ -1,4 +1,5 @@
 pub mod Calls
+pub mod Widths
 pub mod Parts
 pub mod Tables
 pub mod EntryFunctions

@@ -6,6 +6,7 @@
 mod calls;
 mod dir_store;
 mod faults;
+mod handed;
 mod logged;
 mod mem_sink;
 mod mem_store;

@@ -1,43 +1,51 @@
 //! A real writer, as standard output.
 
-ghost use Rattle.std.specs.Prelude.{◌≡◌, ◌≤◌, None, OnOk, OnErr};
+ghost use Rattle.std.specs.Prelude.{◌≡◌, ◌≤◌, [], Some, OnOk, OnErr};
 ghost use Rattle.std.specs.Io.KnownBytes.{Appends};
 ghost use Rattle.vlt_io.specs.Outside.{Rose, Grew, GrewByPart};
 
 use crate::faults::Faults;
+use crate::handed::Handed;
 use crate::{Sink, SinkFailed};
 use std::io::Write;
 
-/// A writer. Nothing is told of it but how often writing failed.
+/// A writer. It tells how often writing failed, and the pieces of all writes that came back; what a write that failed put out
+/// isn't told.
 #[derive(Drop)]
 pub struct OutSink<W: Write> {
     writer: W,
     faults: Faults,
+    handed: Handed,
 }
 
 impl<W: Write> OutSink<W> {
-    ghost use Rattle.vlt_io.specs.Real.{writer_faults};
+    ghost use Rattle.vlt_io.specs.Real.{handed_to, writer_faults};
 
+    /// A sink that has written nothing yet.
     pub fn new(writer: W) -> OutSink<W>
-        ensures { writer_faults result ≡ 0 }
+        ensures faults { writer_faults result ≡ 0 }
+        ensures handed { handed_to result ≡ [] }
     {
         OutSink {
             writer,
             faults: Faults::new(),
+            handed: Handed::new(),
         }
     }
 }
 
 impl<W: Write> Sink for OutSink<W> {
-    ghost use Rattle.vlt_io.specs.Real.{writer_of, writer_faults};
+    ghost use Rattle.vlt_io.specs.Real.{writer_of, handed_to, writer_faults};
 
     ghost faults = { writer_faults };
 
-    ghost written = { λ _. None };
+    ghost written = { λ sink. Some (handed_to sink) };
 
     fn write(&mut self, piece: &[u8]) -> Result<(), SinkFailed>
-        ensures ok { OnOk result (Grew None None piece.now) }
-        ensures part { OnErr result (GrewByPart None None piece.now) }
+        ensures ok { OnOk result (Grew (Some (handed_to self.old)) (Some (handed_to self.new))
+            piece.now) }
+        ensures part { OnErr result (GrewByPart (Some (handed_to self.old))
+            (Some (handed_to self.new)) piece.now) }
         ensures failed { OnErr result (Rose (writer_faults self.old) (writer_faults self.new)) }
         ensures counted { writer_faults self.old ≤ writer_faults self.new }
         ensures taken { OnOk result (Appends (W.contents (writer_of self.old))
@@ -47,6 +55,7 @@ impl<W: Write> Sink for OutSink<W> {
             self.faults.add();
             return Err(SinkFailed);
         }
+        self.handed = self.handed.and(&piece);
         Ok(())
     }
 }

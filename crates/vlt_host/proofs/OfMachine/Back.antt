@@ -27,7 +27,7 @@ use Rattle.vlt_acts.specs.Values.Parts.{IsObject, HasPart}
 use Rattle.vlt_acts.specs.Values.Shown.{ShowObjects}
 use Rattle.vlt_acts.specs.Frames.Left.{value_at, AreRoots, IsGiven, HasLeft}
 use Rattle.vlt_acts.proofs.OfFrames.Callees.{root_held, held_shown}
-use Rattle.vlt_sound_calls.specs.Callee.{Among}
+use Rattle.vlt_sound_calls.specs.Among.{Among}
 use Rattle.vlt_host_acts.specs.declared.values.HostValue.{HostValue}
 use Rattle.vlt_host_acts.specs.declared.values.HostValue.TheVariants.{Number, Object}
 use Rattle.vlt_host_acts.specs.Values.{value_of}

@@ -1,7 +1,6 @@
 -- What a machine that a host calls asks of a program, and which calls it takes.
-use Rattle.std.specs.Prelude.{◌≡◌, ℕ, ◌+◌, Bool, false, List, Option, None, Some, slice_get}
+use Rattle.std.specs.Prelude.{◌≡◌, ℕ, Bool, false, List, Option, None, Some, slice_get}
 use Rattle.vlt_core.specs.Core.{Func, Program}
-use Rattle.vlt_core.specs.Widths.{slots_needed}
 use Rattle.vlt_meaning.specs.World.{Object}
 use Rattle.vlt_interp.specs.Tasks.Own.{HasOwn}
 use Rattle.vlt_host_meaning.specs.Calls.{Argument}
@@ -18,10 +17,6 @@ pub record IsCallable (p : Program) : Type 0 where
   pub takes : TakesCalls p
   pub results : GivesResults p
   pub knows : KnowsStartedCalls p
-
--- the slots of so many frames and objects, with one more for each object
-abbrev pub slots_needed_by_host : Program → (depth heap : ℕ) → ℕ
-slots_needed_by_host p depth heap = slots_needed p depth heap + heap
 
 abbrev pub may_call_in : Program → (number : ℕ) → Option Func → List Argument → List Object → Bool
 may_call_in p i None args objects = false

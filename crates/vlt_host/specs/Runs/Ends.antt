@@ -14,7 +14,7 @@ use Rattle.vlt_steps.specs.Ends as ends
 use Rattle.vlt_acts.specs.Hosts.Stops.{outcome_of}
 use Rattle.vlt_host_meaning.specs.Calls.{HostCall}
 use Rattle.vlt_host_meaning.specs.HostRun.{HostOutcome, ended, bad_call, HostRan, host_run}
-use Rattle.vlt_host.specs.Machine.Callable.{slots_needed_by_host}
+use Rattle.vlt_host_meaning.specs.Widths.{slots_needed_by_host}
 use Rattle.vlt_host.specs.declared.runs.stop.HostStop.{HostStop}
 use Rattle.vlt_host.specs.declared.runs.stop.HostStop.TheVariants.{Stopped, BadCall}
 

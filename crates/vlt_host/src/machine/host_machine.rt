@@ -3,13 +3,15 @@
 ghost use Rattle.std.specs.Prelude.{◌≡◌, ◌<◌, ◌≤◌, ◌↔◌, [], List, None, Some, true, IfOk, IfSome, slice_get, map};
 ghost use Rattle.std.specs.Option.{option_map};
 ghost use Rattle.vlt_base.specs.Limits.{limit_of};
+ghost use Rattle.vlt_base.specs.declared.limits.TheConstants as limits;
 ghost use Rattle.vlt_core.specs.View.{program_of};
 ghost use Rattle.vlt_core.specs.Core.{Func};
 ghost use Rattle.vlt_meaning.specs.World.{Object, World};
 ghost use Rattle.vlt_host_meaning.specs.Tables.{argument_of};
 ghost use Rattle.vlt_host_meaning.specs.HostFrame.{held_objects};
 ghost use Rattle.vlt_host_meaning.specs.OneCall.{host_calls};
-ghost use Rattle.vlt_host.specs.Machine.Callable.{IsCallable, slots_needed_by_host, may_call};
+ghost use Rattle.vlt_host.specs.Machine.Callable.{IsCallable, may_call};
+ghost use Rattle.vlt_host_meaning.specs.Widths.{slots_needed_by_host};
 ghost use Rattle.vlt_host.specs.declared.machine.called.Called.TheVariants.{Ended};
 
 use crate::machine::called::{Called, Supply};
@@ -65,7 +67,7 @@ impl<'a> HostMachine<'a> {
         ensures objects { IfOk result (λ m. ShowsObjects m []) }
         ensures fuel { IfOk result (λ m. fuel_left m ≡ b.fuel) }
         ensures too_wide { (result ≡ Err OpenError.TooWide) ↔
-            (limit_of 13 < slots_needed_by_host (program_of p.now) b.depth b.heap) }
+            (limit_of limits.VALUE_SLOTS < slots_needed_by_host (program_of p.now) b.depth b.heap) }
     {
         if is_too_wide_for_host(p, b.depth, b.heap) {
             return Err(OpenError::TooWide);

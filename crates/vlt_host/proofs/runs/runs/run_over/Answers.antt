@@ -3,7 +3,7 @@ use Rattle.vlt_core.specs.View.{program_of}
 use Rattle.vlt_steps.specs.Writing.{Outside}
 use Rattle.vlt_numbers.specs.HostAnswers.{lists_of}
 use Rattle.vlt_host_meaning.specs.Tables.{calls_in}
-use Rattle.vlt_host.specs.Machine.Callable.{slots_needed_by_host}
+use Rattle.vlt_host_meaning.specs.Widths.{slots_needed_by_host}
 use Rattle.vlt_steps.specs.declared.end.RunEnd.TheVariants.{Stopped}
 use Rattle.vlt_steps.proofs.Ending.{fits}
 use Rattle.vlt_host.specs.Runs.Ends.{EndsRun}
