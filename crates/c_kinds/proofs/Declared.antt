@@ -14,7 +14,8 @@ use Rattle.c_syntax.specs.Unit.{Declaration, Head, Body, TranslationUnit}
 use Rattle.c_syntax.specs.Kinds as k
 use Rattle.c_syntax.specs.Kinds.{Refusal, Scope, Walk, same_bool, same_variable, is_one_of, scope_of}
 use Rattle.c_syntax.specs.Programs.{IsFuncOf, AreFuncsOf, bodies_of, IsProgramOf}
-use Rattle.c_machine.specs.Machine.{names_of, DeclaresStmt, Declares, AllDeclare, IsDeclared}
+use Rattle.c_machine.specs.Machine.{DeclaresStmt, Declares, AllDeclare, IsDeclared}
+use Rattle.c_meaning.specs.Widths.{names_of}
 
 -- ---- a walk that ends without a refusal had none before
 

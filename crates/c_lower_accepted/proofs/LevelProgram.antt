@@ -26,7 +26,8 @@ use Rattle.c_meaning.specs.Run as crun
 use Rattle.c_lower.specs.Lowering.{lowered}
 use Rattle.c_lower_runs.specs.SameRuns.{c_outcome}
 use Rattle.c_lower_worlds.specs.Given.{IsFed}
-use Rattle.c_lower_accepted.specs.Accepted.{IsAcceptedProgram, RunsAlike, IsDefined}
+use Rattle.c_lower_accepted.specs.Accepted.{IsAcceptedProgram}
+use Rattle.c_lower_accepted.specs.Promise.{RunsAlike, IsDefined}
 use Rattle.c_lower_accepted.proofs.Accepted.{accepted_alike, accepted_defined}
 
 -- ---- sets

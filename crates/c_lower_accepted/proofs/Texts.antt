@@ -6,7 +6,7 @@ use Rattle.vlt_core.specs.Derives.{IsAccepted}
 use Rattle.vlt_kinds_types.specs.declared.names.found.Refusal.{Refusal}
 use Rattle.vlt_kinds_types.specs.Kinds.{Kinds}
 use Rattle.vlt_kinds.specs.Tables.{kinds_of, kinds_told}
-use Rattle.vlt_elaboration.specs.Elaboration.{Told, broken, elaborated}
+use Rattle.vlt_elaboration.specs.Elaboration.{Refused, broken, elaborated}
 use Rattle.vlt_elaboration.specs.Programs.{with_kinds}
 use Rattle.vlt_resolve_laws.specs.Elaborated.{IsElaborated}
 use Rattle.vlt_resolve_laws.proofs.Made.{told}
@@ -18,7 +18,7 @@ use Rattle.c_lower_accepted.proofs.Accepted.{accepted_alike, accepted_defined}
 use Rattle.c_lower_accepted.proofs.FilledParts.{results_filled, parts_filled}
 use Rattle.c_lower_accepted.proofs.TextLimits.{cases_few, payloads_few, parameters_few}
 
-ok_or_err : (r : Told) (p : Program) → ◌≡◌ {A = Result Program Told} (Err r) (Ok p) → ⊥
+ok_or_err : (r : Refused) (p : Program) → ◌≡◌ {A = Result Program Refused} (Err r) (Ok p) → ⊥
 ok_or_err r p e = cc
 
 module _ (fits : ProgramsAreFit) (t : Tree) (p : Program) (tree : IsTextTree t) (accepted : IsAccepted p) where

@@ -1,5 +1,5 @@
 -- Accepted programs, and what their C programs do.
-use Rattle.std.specs.Prelude.{◌≡◌, ◌≤◌, ℕ, ℤ, true, false, List, length, Some, slice_get}
+use Rattle.std.specs.Prelude.{◌≡◌, ◌≤◌, ℕ, true, List, length, Some, slice_get}
 use Rattle.vlt_core.specs.Core.{States, owning, CaseDecl, Func, Program}
 use Rattle.vlt_core.specs.Lookups.{cases_of, case_at}
 use Rattle.vlt_core.specs.Kinded.{IsKinded}
@@ -8,11 +8,7 @@ use Rattle.vlt_core.specs.Derives.{IsAccepted}
 use Rattle.vlt_core_laws.specs.States.{IsFilledSet, HasStates}
 use Rattle.vlt_sound.specs.Sizes.{HasSizes}
 use Rattle.vlt_sound.specs.Narrow.{HasNarrowHeads}
-use Rattle.vlt_meaning.specs.Run.{run}
-use Rattle.c_meaning.specs.Run.{c_run}
-use Rattle.c_lower.specs.Lowering.{lowered}
-use Rattle.c_lower_worlds.specs.Given.{IsFed}
-use Rattle.c_lower_runs.specs.SameRuns.{AreTheSame, is_undefined}
+use Rattle.c_lower_accepted.specs.Promise.{RunsAlike, IsDefined}
 
 -- What the lowering asks of a program, and the promise of runs doesn't: the grammar and its limits
 -- give it.
@@ -42,19 +38,6 @@ pub record IsAcceptedProgram (p : Program) : Type 0 where
   pub states : HasStates p
   pub narrow : HasNarrowHeads p
   pub limits : KeepsLimits p
-
--- a run of the program and that of its C program are the same: whatever the bounds, the input and the
--- answers
-abbrev pub RunsAlike : Program → Type 0
-RunsAlike p =
-    (fuel heap depth : ℕ) (input : List ℤ) (answers : List (List ℤ)) → IsFed input answers →
-    AreTheSame (run p fuel heap depth input answers) (c_run (lowered p) fuel heap depth input answers)
-
--- the C program breaks no rule of C
-abbrev pub IsDefined : Program → Type 0
-IsDefined p =
-    (fuel heap depth : ℕ) (input : List ℤ) (answers : List (List ℤ)) → IsFed input answers →
-    is_undefined (c_run (lowered p) fuel heap depth input answers).outcome ≡ false
 
 abbrev pub AcceptedRunAlike : Type 0
 AcceptedRunAlike = (p : Program) → IsAcceptedProgram p → RunsAlike p

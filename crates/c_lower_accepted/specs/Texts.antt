@@ -5,7 +5,7 @@ use Rattle.vlt_core.specs.Core.{Program}
 use Rattle.vlt_core.specs.Derives.{IsAccepted}
 use Rattle.vlt_elaboration.specs.Programs.{program_told}
 use Rattle.vlt_fit_laws.specs.Fit.{IsTextTree}
-use Rattle.c_lower_accepted.specs.Accepted.{RunsAlike, IsDefined}
+use Rattle.c_lower_accepted.specs.Promise.{RunsAlike, IsDefined}
 
 -- The program is that of a tree as texts have them, and is accepted.
 pub record IsAcceptedTree (t : Tree) (p : Program) : Type 0 where

@@ -1,5 +1,5 @@
 //! Laws on the C programs of accepted programs, and of those of trees: nothing goes in and nothing comes out.
-//! Read `specs/Accepted.antt` first, then `specs/Texts.antt`.
+//! Read `specs/Promise.antt` first, then `specs/Accepted.antt` and `specs/Texts.antt`.
 //! Used by: the command `emit`, which promises them.
 #![tactic(auto)]
 

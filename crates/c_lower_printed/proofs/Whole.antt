@@ -5,7 +5,7 @@ use Rattle.vlt_core.specs.Core.{Program}
 use Rattle.vlt_kinds_types.specs.declared.names.found.Refusal.{Refusal}
 use Rattle.vlt_kinds_types.specs.Kinds.{Kinds}
 use Rattle.vlt_kinds.specs.Tables.{kinds_of, kinds_told}
-use Rattle.vlt_elaboration.specs.Elaboration.{Told, broken, elaborated}
+use Rattle.vlt_elaboration.specs.Elaboration.{Refused, broken, elaborated}
 use Rattle.vlt_elaboration.specs.Programs.{with_kinds, program_told}
 use Rattle.vlt_resolve_laws.specs.Elaborated.{IsElaborated}
 use Rattle.vlt_resolve_laws.proofs.Made.{told}
@@ -22,7 +22,7 @@ use Rattle.c_lower_printed.proofs.Blocks.{blocks_shallow}
 use Rattle.c_lower_printed.proofs.Expressions.{expressions_shallow}
 use Rattle.c_lower_printed.proofs.Names.{externals_named}
 
-ok_or_err : (r : Told) (p : Program) → ◌≡◌ {A = Result Program Told} (Err r) (Ok p) → ⊥
+ok_or_err : (r : Refused) (p : Program) → ◌≡◌ {A = Result Program Refused} (Err r) (Ok p) → ⊥
 ok_or_err r p e = cc
 
 -- the kinds of a tree that a program is made of

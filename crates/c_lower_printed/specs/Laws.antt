@@ -1,6 +1,7 @@
 -- What is proved of the C texts of accepted texts' programs.
 use Rattle.std.specs.Prelude.{◌≤◌, length}
 use Rattle.vlt_base.specs.Limits.{limit_of}
+use Rattle.vlt_base.specs.declared.limits.TheConstants.{C_BYTES}
 use Rattle.vlt_syntax.specs.Tree.{Tree}
 use Rattle.vlt_syntax.specs.Lists.{Each}
 use Rattle.vlt_syntax.specs.Spelling.{spelling}
@@ -17,11 +18,11 @@ use Rattle.cert_text_laws.specs.Texts.{IsInText}
 abbrev pub TextsArePrintable : Type 0
 TextsArePrintable =
     (t : Tree) (p : Program) → Each IsInText (spelling t) → IsAcceptedTree t p →
-    length (canonical_text (lowered p)) ≤ limit_of 2 → IsPrintable p
+    length (canonical_text (lowered p)) ≤ limit_of C_BYTES → IsPrintable p
 
 -- so the canonical text of its C program reads as that very program
 abbrev pub AcceptedTextsAreReadAgain : Type 0
 AcceptedTextsAreReadAgain =
     (t : Tree) (p : Program) → Each IsInText (spelling t) → IsAcceptedTree t p →
-    length (canonical_text (lowered p)) ≤ limit_of 2 →
+    length (canonical_text (lowered p)) ≤ limit_of C_BYTES →
     ReadsAs (canonical_text (lowered p)) (lowered p)

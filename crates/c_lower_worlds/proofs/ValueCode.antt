@@ -14,7 +14,7 @@ use Rattle.c_syntax.specs.C as syntax
 use Rattle.c_meaning.specs.World as cw
 use Rattle.c_meaning.specs.World.{World, Value, Vars}
 use Rattle.c_meaning.specs.Blocks.{Blocks}
-use Rattle.c_meaning.specs.Values.{p_variable, cell_value, set_or_5}
+use Rattle.c_meaning.specs.Values.{p_variable, cell_value, or_unset}
 use Rattle.c_meaning.specs.Values as cvalues
 use Rattle.c_meaning.specs.Run.{Frame, goes, with_var}
 use Rattle.c_lower.specs.Slots.{Sort, of_number, of_reference, of_owner, Numbers, past, past_all, var_at, vars_at, cell_at, cells_at, slot_vars, slot_of, slot_sorts, sorts_of_field, field_sorts, first_numbers, first_temps, cell_sorts, object_type}
@@ -48,7 +48,7 @@ pub vars_atoms : (vs : List CVar) (values : List Value) (f : Frame) (bs : Blocks
 vars_atoms [] [] f bs h = tt
 vars_atoms [] (a ∷ values) f bs h = absurd h
 vars_atoms (v ∷ vs) [] f bs h = absurd h
-vars_atoms (v ∷ vs) (a ∷ values) f bs h = (ap set_or_5 h.0, vars_atoms vs values f bs h.1)
+vars_atoms (v ∷ vs) (a ∷ values) f bs h = (ap or_unset h.0, vars_atoms vs values f bs h.1)
 
 -- the slots of a variable, as atoms
 pub slots_have : (p : Program) (f : Func) (v : ℕ) (t : Numbers) (values : List Value) (frame h : Frame) (bs : Blocks) → AreUpTo (first_temps p f) t → AreAlike t frame h →

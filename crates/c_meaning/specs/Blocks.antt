@@ -2,6 +2,7 @@
 use Rattle.std.specs.Prelude.{ℕ, suc, ◌==◌, nat_lt, nat_le, ℤ, Bool, true, false, not, ◌&&◌, ◌||◌, if◌then◌else◌, List, [], ◌∷◌, map, length, replicate, Option, Some, None, Result, Ok, Err, slice_get, slice_set, option_map}
 use Rattle.std.specs.List.{count_by}
 use Rattle.vlt_base.specs.Parents.{Parents, is_at_or_below}
+use Rattle.c_syntax.specs.declared.rules.TheConstants as rule
 
 -- A cell that has nothing yet is unset. A reference is null, or it goes to a block.
 pub record Block : Type 0 where
@@ -88,17 +89,17 @@ without n bs = without_from (is_at_or_below (parents_of bs) (n ∷ [])) 0 bs
 
 -- ---- cells: their value, or the rule that is broken
 
-abbrev pub set_or_2 : {A : Type 0} → Option (Option A) → Result A ℕ
-set_or_2 (Some (Some x)) = Ok x
-set_or_2 _ = Err 2
+abbrev pub or_no_cell : {A : Type 0} → Option (Option A) → Result A ℕ
+or_no_cell (Some (Some x)) = Ok x
+or_no_cell _ = Err rule.NO_CELL
 
 abbrev pub number_in : Option Block → ℕ → Result ℤ ℕ
-number_in None i = Err 1
-number_in (Some b) i = set_or_2 (slice_get b.numbers i)
+number_in None i = Err rule.DEAD_BLOCK
+number_in (Some b) i = or_no_cell (slice_get b.numbers i)
 
 abbrev pub reference_in : Option Block → ℕ → Result (Option ℕ) ℕ
-reference_in None i = Err 1
-reference_in (Some b) i = set_or_2 (slice_get b.references i)
+reference_in None i = Err rule.DEAD_BLOCK
+reference_in (Some b) i = or_no_cell (slice_get b.references i)
 
 abbrev pub read_number : Blocks → Option ℕ → ℕ → Result ℤ ℕ
 read_number bs p i = number_in (block_at bs p) i
@@ -108,27 +109,27 @@ read_reference bs p i = reference_in (block_at bs p) i
 
 abbrev pub if_within : Bool → Blocks → Result Blocks ℕ
 if_within true bs = Ok bs
-if_within false bs = Err 2
+if_within false bs = Err rule.NO_CELL
 
 abbrev pub if_there : Option Block → (Block → Result Blocks ℕ) → Result Blocks ℕ
-if_there None go = Err 1
+if_there None go = Err rule.DEAD_BLOCK
 if_there (Some b) go = go b
 
 abbrev pub write_number : Blocks → Option ℕ → ℕ → ℤ → Result Blocks ℕ
-write_number bs None i z = Err 1
+write_number bs None i z = Err rule.DEAD_BLOCK
 write_number bs (Some n) i z =
     if_there (live_block bs n) (λ b. if_within (nat_lt i (length b.numbers)) (with_changed_block n (with_number i z) bs))
 
 abbrev pub write_reference : Blocks → Option ℕ → ℕ → Option ℕ → Result Blocks ℕ
-write_reference bs None i p = Err 1
+write_reference bs None i p = Err rule.DEAD_BLOCK
 write_reference bs (Some n) i p =
     if_there (live_block bs n) (λ b. if_within (nat_lt i (length b.references)) (with_changed_block n (with_reference i p) bs))
 
--- ---- primitives: the blocks after them, or misuse, which is rule 8
+-- ---- primitives: the blocks after them, or misuse
 
-abbrev pub or_8 : {A : Type 0} → Bool → A → Result A ℕ
-or_8 true x = Ok x
-or_8 false x = Err 8
+abbrev pub or_misused : {A : Type 0} → Bool → A → Result A ℕ
+or_misused true x = Ok x
+or_misused false x = Err rule.MISUSED
 
 -- live, not out, and no child
 abbrev pub is_free : Block → Bool
@@ -137,32 +138,32 @@ is_free b = not b.is_out && not (is_child b)
 -- a null child is nothing to own
 abbrev pub blocks_after_own : Blocks → (child parent : Option ℕ) → Result Blocks ℕ
 blocks_after_own bs None parent = Ok bs
-blocks_after_own bs (Some c) None = Err 8
+blocks_after_own bs (Some c) None = Err rule.MISUSED
 blocks_after_own bs (Some c) (Some q) =
-    or_8 (passes is_free (live_block bs c) && (not (c == q) && passes (λ b. not (is_child b)) (live_block bs q)))
+    or_misused (passes is_free (live_block bs c) && (not (c == q) && passes (λ b. not (is_child b)) (live_block bs q)))
     (with_changed_block c (with_parent (Some q)) bs)
 
 abbrev pub blocks_after_disown : Blocks → (child : Option ℕ) → Result Blocks ℕ
 blocks_after_disown bs None = Ok bs
-blocks_after_disown bs (Some c) = or_8 (is_there (live_block bs c)) (with_changed_block c (with_parent None) bs)
+blocks_after_disown bs (Some c) = or_misused (is_there (live_block bs c)) (with_changed_block c (with_parent None) bs)
 
-abbrev pub some_or_8 : {A : Type 0} → Option A → Result A ℕ
-some_or_8 None = Err 8
-some_or_8 (Some x) = Ok x
+abbrev pub some_or_misused : {A : Type 0} → Option A → Result A ℕ
+some_or_misused None = Err rule.MISUSED
+some_or_misused (Some x) = Ok x
 
 abbrev pub parent_of : Blocks → (child : Option ℕ) → Result ℕ ℕ
-parent_of bs child = some_or_8 (parent_in (block_at bs child))
+parent_of bs child = some_or_misused (parent_in (block_at bs child))
 
 abbrev pub blocks_after_release : Blocks → Option ℕ → Result Blocks ℕ
 blocks_after_release bs None = Ok bs
-blocks_after_release bs (Some n) = or_8 (passes (λ b. not b.is_out) (live_block bs n)) (without n bs)
+blocks_after_release bs (Some n) = or_misused (passes (λ b. not b.is_out) (live_block bs n)) (without n bs)
 
 abbrev pub gone_out : Blocks → Option ℕ → Result Blocks ℕ
-gone_out bs None = Err 8
-gone_out bs (Some n) = or_8 (passes is_free (live_block bs n)) (with_changed_block n (with_out true) bs)
+gone_out bs None = Err rule.MISUSED
+gone_out bs (Some n) = or_misused (passes is_free (live_block bs n)) (with_changed_block n (with_out true) bs)
 
 -- the blocks after the return of one that is out; none where it isn't
 abbrev pub come_back : Blocks → Option ℕ → Result (Option Blocks) ℕ
-come_back bs None = Err 8
+come_back bs None = Err rule.MISUSED
 come_back bs (Some n) =
     Ok (if passes (λ b. b.is_out) (live_block bs n) then Some (with_changed_block n (with_out false) bs) else None)

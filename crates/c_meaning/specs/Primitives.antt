@@ -3,6 +3,7 @@ use Rattle.std.specs.Prelude.{ℕ, ◌+◌, ◌==◌, nat_lt, ℤ, pos, negsuc, 
 use Rattle.std.specs.Int.{w64, cast_unsigned, bit_at}
 use Rattle.vlt_ops.specs.declared.TrapKind.TheVariants.{Overflow, ZeroDivisor}
 use Rattle.vlt_ops.specs.Operator.{equals, bool_number}
+use Rattle.c_syntax.specs.declared.rules.TheConstants as rule
 use Rattle.c_syntax.specs.declared.program.CPrim.{CPrim}
 use Rattle.c_syntax.specs.declared.program.CPrim.TheVariants as prim
 use Rattle.c_syntax.specs.C as c
@@ -42,7 +43,7 @@ abbrev pub traps : ℤ → World → Effect
 traps z w =
     if equals z (pos 1) then ends (trap Overflow) w
     else if equals z (pos 2) then ends (trap ZeroDivisor) w
-    else breaks_rule 8
+    else breaks_rule rule.MISUSED
 
 abbrev pub with_event : Event → World → World
 with_event e w = record w { events = w.events ++ e ∷ [] }
@@ -55,19 +56,19 @@ abbrev pub has_more : {A : Type 0} → List A → Bool
 has_more [] = false
 has_more (x ∷ xs) = true
 
--- ---- registers; an index out of range is rule 7
+-- ---- registers
 
 abbrev pub index_below : ℕ → ℤ → Option ℕ
 index_below count (pos i) = if nat_lt i count then Some i else None
 index_below count (negsuc i) = None
 
 unfoldable pub at_index : Option ℕ → (ℕ → Effect) → Effect
-at_index None go = breaks_rule 7
+at_index None go = breaks_rule rule.NO_REGISTER
 at_index (Some i) go = go i
 
 abbrev pub from_register : {A : Type 0} → Option (Option A) → (A → Value) → World → Effect
 from_register (Some (Some x)) made w = gives (Some (made x)) w
-from_register _ made w = breaks_rule 7
+from_register _ made w = breaks_rule rule.NO_REGISTER
 
 abbrev pub puts_number : ℤ → ℤ → World → Effect
 puts_number i z w = at_index (index_below (length w.number_registers) i) (λ j.
@@ -85,11 +86,11 @@ abbrev pub gets_reference : ℤ → World → Effect
 gets_reference i w = at_index (index_below (length w.reference_registers) i) (λ j.
     from_register (slice_get w.reference_registers j) reference w)
 
--- ---- the host: an answer call out of order is rule 8
+-- ---- the host
 
 abbrev pub begins_call : List ℕ → Talk → World → Effect
 begins_call name idle w = nothing (record w { talk = calling name [] })
-begins_call name _ w = breaks_rule 8
+begins_call name _ w = breaks_rule rule.MISUSED
 
 -- how many arguments a call has at most
 abbrev pub max_told : ℕ
@@ -98,14 +99,14 @@ max_told = 16
 abbrev pub tells_number : ℤ → Talk → World → Effect
 tells_number z (calling name args) w =
     if nat_lt (length args) max_told then nothing (record w { talk = calling name (args ++ told_number z ∷ []) })
-    else breaks_rule 8
-tells_number z _ w = breaks_rule 8
+    else breaks_rule rule.MISUSED
+tells_number z _ w = breaks_rule rule.MISUSED
 
 abbrev pub tells_block : Option ℕ → Talk → World → Effect
 tells_block (Some n) (calling name args) w =
     if nat_lt (length args) max_told then nothing (record w { talk = calling name (args ++ told_block n ∷ []) })
-    else breaks_rule 8
-tells_block _ _ w = breaks_rule 8
+    else breaks_rule rule.MISUSED
+tells_block _ _ w = breaks_rule rule.MISUSED
 
 -- the next answer is taken
 abbrev pub takes_answer : List (List ℤ) → World → Effect
@@ -114,7 +115,7 @@ takes_answer (a ∷ rest) w = nothing (record w { answers = rest; taken = w.take
 
 abbrev pub asks : Talk → World → Effect
 asks (calling name args) w = takes_answer w.answers (with_event (called name args) w)
-asks _ w = breaks_rule 8
+asks _ w = breaks_rule rule.MISUSED
 
 abbrev pub bad : World → Effect
 bad w = ends (bad_answer w.taken) w
@@ -124,7 +125,7 @@ abbrev pub reads_answer : (ℤ → Bool) → Talk → World → Effect
 reads_answer test (reading []) w = bad w
 reads_answer test (reading (z ∷ zs)) w =
     if test z then gives (Some (number z)) (record w { talk = reading zs }) else bad w
-reads_answer test _ w = breaks_rule 8
+reads_answer test _ w = breaks_rule rule.MISUSED
 
 -- the number of a bit of m that is 1, m being in two's complement
 abbrev pub is_bit_of : (m : ℤ) → ℤ → Bool
@@ -133,7 +134,7 @@ is_bit_of m (negsuc i) = false
 
 abbrev pub while_reading : Talk → Effect → Effect
 while_reading (reading zs) e = e
-while_reading _ e = breaks_rule 8
+while_reading _ e = breaks_rule rule.MISUSED
 
 abbrev pub back_or_bad : Option Blocks → World → Effect
 back_or_bad None w = bad w
@@ -142,7 +143,7 @@ back_or_bad (Some bs) w = nothing (record w { blocks = bs })
 abbrev pub ends_answer : Talk → World → Effect
 ends_answer (reading []) w = nothing (record w { talk = idle })
 ends_answer (reading (z ∷ zs)) w = bad w
-ends_answer _ w = breaks_rule 8
+ends_answer _ w = breaks_rule rule.MISUSED
 
 -- ---- arguments, evaluated from the left. Other arguments than these are no program of the kinds.
 
@@ -154,29 +155,29 @@ reference_of x vars = arg_value x vars >>= a_reference
 
 unfoldable pub no_args : List Arg → Effect → Effect
 no_args [] e = e
-no_args _ e = breaks_rule 8
+no_args _ e = breaks_rule rule.MISUSED
 
 unfoldable pub on_number : List Arg → Vars → (ℤ → Effect) → Effect
 on_number (x ∷ []) vars go = or_broken (number_of x vars) go
-on_number _ vars go = breaks_rule 8
+on_number _ vars go = breaks_rule rule.MISUSED
 
 unfoldable pub on_reference : List Arg → Vars → (Option ℕ → Effect) → Effect
 on_reference (x ∷ []) vars go = or_broken (reference_of x vars) go
-on_reference _ vars go = breaks_rule 8
+on_reference _ vars go = breaks_rule rule.MISUSED
 
 unfoldable pub on_numbers : List Arg → Vars → (ℤ → ℤ → Effect) → Effect
 on_numbers (x ∷ y ∷ []) vars go = or_broken (number_of x vars) (λ a. or_broken (number_of y vars) (go a))
-on_numbers _ vars go = breaks_rule 8
+on_numbers _ vars go = breaks_rule rule.MISUSED
 
 unfoldable pub on_number_and_reference : List Arg → Vars → (ℤ → Option ℕ → Effect) → Effect
 on_number_and_reference (x ∷ y ∷ []) vars go =
     or_broken (number_of x vars) (λ a. or_broken (reference_of y vars) (go a))
-on_number_and_reference _ vars go = breaks_rule 8
+on_number_and_reference _ vars go = breaks_rule rule.MISUSED
 
 unfoldable pub on_references : List Arg → Vars → (Option ℕ → Option ℕ → Effect) → Effect
 on_references (x ∷ y ∷ []) vars go =
     or_broken (reference_of x vars) (λ a. or_broken (reference_of y vars) (go a))
-on_references _ vars go = breaks_rule 8
+on_references _ vars go = breaks_rule rule.MISUSED
 
 -- how many cells of each sort a block is asked to have
 abbrev pub asked_cells : List Arg → Option (ℕ × ℕ)
@@ -184,7 +185,7 @@ asked_cells (c.number (pos a) ∷ c.number (pos b) ∷ []) = Some (a, b)
 asked_cells _ = None
 
 abbrev pub makes_asked : (heap : ℕ) → Option (ℕ × ℕ) → World → Effect
-makes_asked heap None w = breaks_rule 8
+makes_asked heap None w = breaks_rule rule.MISUSED
 makes_asked heap (Some q) w = makes heap q.0 q.1 w
 
 abbrev pub name_told : List Arg → Option (List ℕ)
@@ -192,7 +193,7 @@ name_told (c.text s ∷ []) = Some s
 name_told _ = None
 
 abbrev pub begins_named : Option (List ℕ) → World → Effect
-begins_named None w = breaks_rule 8
+begins_named None w = breaks_rule rule.MISUSED
 begins_named (Some s) w = begins_call s w.talk w
 
 -- ---- all
@@ -232,7 +233,7 @@ set_does e vars w = or_broken (value_of e vars w.blocks) (λ a. gives (Some a) w
 abbrev pub write_effect : CCell → Option ℕ → Value → World → Effect
 write_effect (cell.Number p i) b (number z) w = with_blocks w (write_number w.blocks b i z)
 write_effect (cell.Reference p i) b (reference q) w = with_blocks w (write_reference w.blocks b i q)
-write_effect x b a w = breaks_rule 5
+write_effect x b a w = breaks_rule rule.UNSET
 
 abbrev pub base_of : CCell → ℕ
 base_of (cell.Number p i) = p

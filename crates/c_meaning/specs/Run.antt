@@ -1,6 +1,7 @@
 -- What the statements of a C program do, and whole runs.
 use Rattle.std.specs.Prelude.{ℕ, zero, suc, ◌+◌, ◌-◌, ◌==◌, nat_lt, ℤ, Bool, true, false, not, ◌&&◌, if◌then◌else◌, List, [], ◌∷◌, length, Option, Some, None, Result, Ok, Err}
 use Rattle.vlt_ops.specs.Operator.{is_true}
+use Rattle.c_syntax.specs.declared.rules.TheConstants as rule
 use Rattle.c_syntax.specs.declared.program.CResult.{CResult}
 use Rattle.c_syntax.specs.declared.program.CResult.TheVariants as result
 use Rattle.c_syntax.specs.declared.program.CVar.{CVar}
@@ -75,7 +76,7 @@ with_var v a frame = record frame { vars = λ u. if same_variable u v then Some 
 -- a call that gives nothing is assigned by no program of the kinds
 abbrev pub after_receiving : (n : ℕ) → Option CVar → Option Value → Frame → World → Step
 after_receiving n None a frame w = goes frame w
-after_receiving n (Some v) None frame w = stops (undefined 6 n) w
+after_receiving n (Some v) None frame w = stops (undefined rule.NO_VALUE n) w
 after_receiving n (Some v) (Some a) frame w = goes (with_var v a frame) w
 
 -- n is the number of the statement that runs
@@ -133,13 +134,13 @@ has_room r false depth = nat_lt depth r.depth
 -- the end of a body is the end of a function that gives nothing
 abbrev pub at_end : (count : ℕ) → (n : ℕ) → CResult → Option CVar → Frame → World → Step
 at_end count n result.Nothing target frame w = after_receiving n target None frame w
-at_end count n _ target frame w = stops (undefined 6 count) w
+at_end count n _ target frame w = stops (undefined rule.NO_VALUE count) w
 
 -- the caller goes on; the kinds let no jump leave a body
 unfoldable pub back_in : (count : ℕ) → (n : ℕ) → CResult → Option CVar → Frame → Step → Step
 back_in count n given target frame (goes callee w) = at_end count n given target frame w
-back_in count n given target frame (breaks callee w) = stops (undefined 6 count) w
-back_in count n given target frame (continues callee w) = stops (undefined 6 count) w
+back_in count n given target frame (breaks callee w) = stops (undefined rule.NO_VALUE count) w
+back_in count n given target frame (continues callee w) = stops (undefined rule.NO_VALUE count) w
 back_in count n given target frame (leaves a w) = after_receiving n target a frame w
 back_in count n given target frame (stops o w) = stops o w
 
@@ -160,11 +161,11 @@ abbrev pub can_call : (glue : Bool) → Func → List Arg → Frame → Bool
 can_call glue g xs frame = (length g.params == length xs) && not (glue && frame.is_glue)
 
 unfoldable pub call_found : Setup → Meaning → (n : ℕ) → Option CVar → (glue : Bool) → List Arg → Option Numbered → Frame → World → Step
-call_found r rest_of n target glue xs None frame w = stops (undefined 6 n) w
+call_found r rest_of n target glue xs None frame w = stops (undefined rule.NO_VALUE n) w
 call_found r rest_of n target glue xs (Some g) frame w =
     if can_call glue g.func xs frame then
     with_found n (arg_values xs frame.vars) w (λ values. enter r rest_of n target glue g values frame w)
-    else stops (undefined 6 n) w
+    else stops (undefined rule.NO_VALUE n) w
 
 abbrev pub does_call : Setup → Meaning → (n : ℕ) → Option CVar → Call → Frame → World → Step
 does_call r rest_of n target (c.primitive p xs) frame w =
@@ -219,9 +220,9 @@ less r (suc fuel) = does_stmts r (less r fuel)
 
 abbrev pub ran_of : (count : ℕ) → CResult → Step → Ran
 ran_of count result.Nothing (goes frame w) = record { outcome = done; world = w }
-ran_of count _ (goes frame w) = record { outcome = undefined 6 count; world = w }
-ran_of count given (breaks frame w) = record { outcome = undefined 6 count; world = w }
-ran_of count given (continues frame w) = record { outcome = undefined 6 count; world = w }
+ran_of count _ (goes frame w) = record { outcome = undefined rule.NO_VALUE count; world = w }
+ran_of count given (breaks frame w) = record { outcome = undefined rule.NO_VALUE count; world = w }
+ran_of count given (continues frame w) = record { outcome = undefined rule.NO_VALUE count; world = w }
 ran_of count given (leaves a w) = record { outcome = done; world = w }
 ran_of count given (stops o w) = record { outcome = o; world = w }
 
@@ -229,7 +230,7 @@ abbrev pub first_frame : Frame
 first_frame = record { depth = 1; is_glue = false; vars = no_vars }
 
 abbrev pub run_from : Setup → Option Numbered → World → Ran
-run_from r None w = record { outcome = undefined 6 (count_of r.program); world = w }
+run_from r None w = record { outcome = undefined rule.NO_VALUE (count_of r.program); world = w }
 run_from r (Some g) w =
     if r.depth == 0 then record { outcome = depth_end; world = w }
     else ran_of (count_of r.program) g.func.result (does_stmts r (less r w.fuel) g.first g.func.body first_frame w)

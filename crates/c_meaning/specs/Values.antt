@@ -5,6 +5,7 @@ use Rattle.vlt_ops.specs.declared.Op.TheVariants as op
 use Rattle.vlt_ops.specs.declared.TrapKind.{TrapKind}
 use Rattle.vlt_ops.specs.declared.TrapKind.TheVariants.{Overflow, ZeroDivisor}
 use Rattle.vlt_ops.specs.Operator.{applied, is_true, bool_number}
+use Rattle.c_syntax.specs.declared.rules.TheConstants as rule
 use Rattle.c_syntax.specs.declared.program.CVar.{CVar}
 use Rattle.c_syntax.specs.declared.program.CCell.{CCell}
 use Rattle.c_syntax.specs.declared.program.CCell.TheVariants as cell
@@ -18,18 +19,17 @@ abbrev pub ◌>>=◌ : {A B : Type 0} → Result A ℕ → (A → Result B ℕ) 
 ◌>>=◌ (Err r) go = Err r
 ◌>>=◌ (Ok a) go = go a
 
--- an unset variable is rule 5
-abbrev pub set_or_5 : Option Value → Result Value ℕ
-set_or_5 None = Err 5
-set_or_5 (Some a) = Ok a
+abbrev pub or_unset : Option Value → Result Value ℕ
+or_unset None = Err rule.UNSET
+or_unset (Some a) = Ok a
 
 -- The kinds let no value of the other type come here.
 abbrev pub a_number : Value → Result ℤ ℕ
 a_number (number z) = Ok z
-a_number (reference p) = Err 5
+a_number (reference p) = Err rule.UNSET
 
 abbrev pub a_reference : Value → Result (Option ℕ) ℕ
-a_reference (number z) = Err 5
+a_reference (number z) = Err rule.UNSET
 a_reference (reference p) = Ok p
 
 abbrev pub p_variable : ℕ → CVar
@@ -38,7 +38,7 @@ p_variable n = record { reference = true; number = n }
 -- the reference in the `p` variable of a cell
 abbrev pub base_in : ℕ → Vars → Result (Option ℕ) ℕ
 base_in p vars = do
-  a ← set_or_5 (vars (p_variable p))
+  a ← or_unset (vars (p_variable p))
   a_reference a
 
 abbrev pub cell_value : CCell → Vars → Blocks → Result Value ℕ
@@ -51,11 +51,10 @@ cell_value (cell.Reference p i) vars bs = do
   q ← read_reference bs b i
   Ok (reference q)
 
--- signed overflow is rule 3, a zero divisor rule 4
 abbrev pub or_rule : Result ℤ TrapKind → Result Value ℕ
 or_rule (Ok z) = Ok (number z)
-or_rule (Err Overflow) = Err 3
-or_rule (Err ZeroDivisor) = Err 4
+or_rule (Err Overflow) = Err rule.OVERFLOW
+or_rule (Err ZeroDivisor) = Err rule.ZERO_DIVISOR
 
 -- the right side, as 1 or 0
 abbrev pub truth_of : Result Value ℕ → Result Value ℕ
@@ -75,7 +74,7 @@ value_of_both o x b = do
 
 abbrev pub value_of : Expr → Vars → Blocks → Result Value ℕ
 value_of (c.number z) vars bs = Ok (number z)
-value_of (c.variable v) vars bs = set_or_5 (vars v)
+value_of (c.variable v) vars bs = or_unset (vars v)
 value_of (c.cell x) vars bs = cell_value x vars bs
 value_of c.null vars bs = Ok (reference None)
 value_of (c.unary o e) vars bs = do
@@ -90,9 +89,9 @@ value_of (c.binary o a b) vars bs = do
 -- a text is no value; the kinds let it stand in `vr_call` alone
 abbrev pub arg_value : Arg → Vars → Result Value ℕ
 arg_value (c.number z) vars = Ok (number z)
-arg_value (c.variable v) vars = set_or_5 (vars v)
+arg_value (c.variable v) vars = or_unset (vars v)
 arg_value c.null vars = Ok (reference None)
-arg_value (c.text s) vars = Err 5
+arg_value (c.text s) vars = Err rule.UNSET
 
 abbrev pub arg_values : List Arg → Vars → Result (List Value) ℕ
 arg_values [] vars = Ok []

@@ -1,6 +1,7 @@
 -- Which C texts are of the grammar: what their spelling leaves open, within bounds.
 use Rattle.std.specs.Prelude.{◌≡◌, ◌≤◌, ℕ, suc, ◌-◌, max, List, [], ◌∷◌, Some}
 use Rattle.vlt_base.specs.Limits.{limit_of}
+use Rattle.vlt_base.specs.declared.limits.TheConstants.{C_BLOCK_DEPTH, C_EXPRESSION_DEPTH}
 use Rattle.vlt_ops.specs.Operator.{row_of}
 use Rattle.c_syntax.specs.declared.program.CPrim.TheVariants as prim
 use Rattle.c_syntax.specs.C as c
@@ -13,7 +14,7 @@ pub record Bounds : Type 0 where
   pub expressions : ℕ
 
 abbrev pub language : Bounds
-language = record { blocks = limit_of 14; expressions = limit_of 15 }
+language = record { blocks = limit_of C_BLOCK_DEPTH; expressions = limit_of C_EXPRESSION_DEPTH }
 
 -- One operand have `-` and `!`, and two the operators of the table with two.
 abbrev pub HasArities : Expr → Type 0

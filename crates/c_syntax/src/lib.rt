@@ -4,6 +4,7 @@
 #![tactic(auto)]
 
 mod program;
+pub mod rules;
 mod token;
 
 pub use program::{CArg, CCall, CCell, CExpr, CFunc, CName, CPrim, CProgram, CResult, CStmt, CVar};

@@ -16,7 +16,8 @@ use Rattle.vlt_core.specs.Types.{keys_of_ty, stands_for, with_keys}
 use Rattle.vlt_core_laws.proofs.Unbroken.{some_same}
 use Rattle.vlt_sound_worlds.proofs.Empty.{both_empty, unless_so}
 use Rattle.vlt_sound_worlds.proofs.Starting.{has_left, has_right, has_in}
-use Rattle.vlt_sound_calls.specs.Callee.{Among, IsParamKey}
+use Rattle.vlt_sound_calls.specs.Callee.{IsParamKey}
+use Rattle.vlt_sound_calls.specs.Among.{Among}
 use Rattle.vlt_sound_calls.specs.Heads.{HasHead}
 use Rattle.vlt_sound_calls.specs.Meet.{KeysMeet}
 use Rattle.vlt_sound_calls.proofs.CallRules.{IsUnbrokenCall, unbroken_call}

@@ -12,7 +12,8 @@ use Rattle.vlt_core.specs.KindedOperands.{value_broken}
 use Rattle.vlt_core.specs.KindedCalls.{return_broken}
 use Rattle.vlt_core.specs.KindedBodies.{in_loop, in_focus, with_focus, with_vars, ends, ids_following, ids_following_block, list_broken, row_broken, form_rows, block_rows, stmts_rows, arms_rows}
 use Rattle.vlt_core.specs.declared.rules.TheConstants as rule
-use Rattle.vlt_core_laws.proofs.Unbroken.{EachEmpty, left_empty, right_empty, each_left, each_right}
+use Rattle.vlt_core_laws.proofs.Unbroken.{left_empty, right_empty, each_left, each_right}
+use Rattle.vlt_core_laws.specs.Unbroken.{EachEmpty}
 use Rattle.vlt_sound.specs.Sizes.{HasSizes}
 use Rattle.vlt_rows.specs.Unfit.{HasWide, HasPart, HasPartBlock, HasPartStmts, HasPartArms, NoArms}
 use Rattle.cert_fit_laws.proofs.Masked.{IsMasked, IsMaskedBlock, AreMasked, AreMaskedArms}

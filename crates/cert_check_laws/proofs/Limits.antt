@@ -8,7 +8,7 @@ use Rattle.vlt_core_laws.specs.States.{HasStates}
 use Rattle.vlt_sound.specs.Sizes.{HasSizes}
 use Rattle.vlt_core.specs.KindedHeads.{type_broken}
 use Rattle.vlt_core.specs.KindedBodies.{first_ids, stmts_rows}
-use Rattle.vlt_core_laws.proofs.Unbroken.{EachEmpty}
+use Rattle.vlt_core_laws.specs.Unbroken.{EachEmpty}
 use Rattle.vlt_core_laws.proofs.Headed.{function_empty, head_empty, each_at}
 use Rattle.vlt_rows.specs.Unfit.{HasNoFlow}
 use Rattle.vlt_flow_maps.specs.Unfit.{IsUnfitEntry, wide_entry, stray_entry, HasNoStart, many_keys, many_vars, unfit_entry}

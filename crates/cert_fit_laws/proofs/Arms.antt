@@ -13,7 +13,8 @@ use Rattle.vlt_core.specs.KindedStatements.{variant_args, is_variant_type}
 use Rattle.vlt_core.specs.KindedBodies.{in_loop, in_focus, with_focus, with_vars, ends, switch_broken, ids_following, ids_following_block, arms_broken, row_broken, form_rows, block_rows, stmts_rows, arms_rows, first_ids}
 use Rattle.vlt_core.specs.declared.rules.TheConstants as rule
 use Rattle.vlt_core_laws.specs.Arms.{IsSomeArm, HasArms, HasArmsBlock, HasArmsStmts, HasArmsArms}
-use Rattle.vlt_core_laws.proofs.Unbroken.{EachEmpty, filled_not_empty, some_not_none, left_empty, right_empty, unless_holds, each_left, each_right}
+use Rattle.vlt_core_laws.proofs.Unbroken.{filled_not_empty, some_not_none, left_empty, right_empty, unless_holds, each_left, each_right}
+use Rattle.vlt_core_laws.specs.Unbroken.{EachEmpty}
 use Rattle.vlt_core_laws.proofs.Headed.{kinded_parts, function_empty, head_empty, each_at}
 use Rattle.std.proofs.lemmas.Bool.{and_parts}
 use Rattle.cert_fit_laws.proofs.Types.{variant_type, owning_type}

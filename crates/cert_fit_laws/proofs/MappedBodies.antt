@@ -3,7 +3,7 @@ use Rattle.std.proofs.Common.{◌≡◌, ◌+◌, ℕ, Bool, true, false, if◌t
 use Rattle.vlt_core.specs.Core as core
 use Rattle.vlt_core.specs.Core.{Func, Program}
 use Rattle.vlt_core.specs.KindedBodies.{ends, first_ids, stmts_rows}
-use Rattle.vlt_core_laws.proofs.Unbroken.{EachEmpty}
+use Rattle.vlt_core_laws.specs.Unbroken.{EachEmpty}
 use Rattle.vlt_core.specs.Bodies.{body_flow}
 use Rattle.vlt_core.specs.Instances.{instance}
 use Rattle.vlt_core.specs.Least.{noted_block}
@@ -12,14 +12,13 @@ use Rattle.vlt_core_laws.proofs.Instanced.{body_rows_same}
 use Rattle.cert_rows.specs.Parts.{All, is_number, zero_or}
 use Rattle.cert_rows.specs.Values.{maps_part}
 use Rattle.cert_rows.specs.Rows.{Maps}
-use Rattle.cert_format.specs.Notes.{MapNotes, join_of, join_note, maps_of}
+use Rattle.cert_format.specs.Notes.{MapNotes, join_of, join_note, maps_of, Note}
 use Rattle.cert_format.specs.Bodies.{count, count_block, count_list, draft_of, block_draft, list_draft, arms_draft, size, size_block, notes_of, block_notes, list_notes, arms_notes}
 use Rattle.cert_format.specs.Certificate.{body_draft}
 use Rattle.cert_format.specs.Bounds.{instances}
 use Rattle.cert_format_laws.proofs.Decoding.{all_left, all_right}
 use Rattle.vlt_core.specs.Kinded.{IsKinded}
 use Rattle.vlt_core_laws.specs.Arms.{HasArmsStmts}
-use Rattle.cert_format.specs.Notes.{Note}
 use Rattle.cert_fit_laws.proofs.Mapped.{HasMaps, BlockHasMaps, HaveMaps, ArmsHaveMaps, HasNotes}
 use Rattle.cert_fit_laws.specs.Complete.{named_by, FitsNote, IsComplete}
 use Rattle.cert_fit_laws.proofs.Sizes.{draft_size, draft_size_block}

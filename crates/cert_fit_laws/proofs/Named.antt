@@ -10,7 +10,8 @@ use Rattle.vlt_core.specs.Least.{Noted, a_loop, a_join, noted, noted_block, note
 use Rattle.vlt_core.specs.KindedScopes.{Ids, Around, at_block_start, left_behind}
 use Rattle.vlt_core.specs.KindedBodies.{in_loop, in_focus, with_focus, with_vars, ends, ids_following, ids_following_block, form_rows, block_rows, stmts_rows, arms_rows}
 use Rattle.vlt_core_laws.specs.Arms.{HasArms, HasArmsBlock, HasArmsStmts, HasArmsArms}
-use Rattle.vlt_core_laws.proofs.Unbroken.{EachEmpty, each_left, each_right}
+use Rattle.vlt_core_laws.proofs.Unbroken.{each_left, each_right}
+use Rattle.vlt_core_laws.specs.Unbroken.{EachEmpty}
 use Rattle.vlt_core_laws.proofs.Ending.{ends_form}
 use Rattle.vlt_core_laws.proofs.Ids.{not_both}
 use Rattle.cert_fit_laws.proofs.Passing.{dont_pass}

@@ -12,7 +12,8 @@ use Rattle.vlt_core.specs.KindedStatements.{variant_args, payload_types, case_br
 use Rattle.vlt_core.specs.KindedCalls.{return_broken}
 use Rattle.vlt_core.specs.KindedBodies.{ends, arm_cases, switch_broken, owning_toks, with_vars, arm_vars_broken, arm_broken, focus_broken, in_loop, in_focus, with_focus, ids_following, ids_following_block, ids_following_stmts, list_broken, arms_broken, row_broken, form_rows, block_rows, stmts_rows, arms_rows}
 use Rattle.vlt_core.specs.declared.rules.TheConstants as rule
-use Rattle.vlt_core_laws.proofs.Unbroken.{EachEmpty, left_empty, right_empty, each_left, each_right}
+use Rattle.vlt_core_laws.proofs.Unbroken.{left_empty, right_empty, each_left, each_right}
+use Rattle.vlt_core_laws.specs.Unbroken.{EachEmpty}
 use Rattle.cert_rows.specs.Parts.{All}
 use Rattle.cert_fit_laws.proofs.Narrow.{IsId, IsNarrow, IsNarrowBlock, AreNarrow, AreNarrowArms}
 use Rattle.cert_fit_laws.specs.Limits.{IsLimited, IsLimitedBlock, AreLimited, AreLimitedArms}

@@ -11,7 +11,8 @@ use Rattle.vlt_core.specs.KindedHeads.{Rules, is_bound_entry, unless, when_some,
 use Rattle.vlt_core.specs.Kinded.{HasKindedParts, IsKinded}
 use Rattle.vlt_core.specs.KindedBodies.{first_ids, stmts_rows}
 use Rattle.vlt_core.specs.declared.rules.TheConstants as rule
-use Rattle.vlt_core_laws.proofs.Unbroken.{EachEmpty, filled_not_empty, left_empty, right_empty, unless_holds}
+use Rattle.vlt_core_laws.proofs.Unbroken.{filled_not_empty, left_empty, right_empty, unless_holds}
+use Rattle.vlt_core_laws.specs.Unbroken.{EachEmpty}
 use Rattle.vlt_core_laws.proofs.Headed.{kinded_parts, function_empty, head_empty, each_at}
 use Rattle.vlt_core_laws.proofs.Binding.{in_range}
 use Rattle.cert_rows.specs.Parts.{All}

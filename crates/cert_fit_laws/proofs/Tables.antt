@@ -8,7 +8,8 @@ use Rattle.vlt_core.specs.Types.{decl_of}
 use Rattle.vlt_core.specs.KindedHeads.{Rules, set_broken, type_rows}
 use Rattle.vlt_core.specs.Kinded.{function_rows, parts_broken, HasKindedParts}
 use Rattle.vlt_core.specs.declared.rules.TheConstants as rule
-use Rattle.vlt_core_laws.proofs.Unbroken.{EachEmpty, left_empty, unless_holds, each_left, each_right, each_of_first, some_not_none, some_same}
+use Rattle.vlt_core_laws.proofs.Unbroken.{left_empty, unless_holds, each_left, each_right, each_of_first, some_not_none, some_same}
+use Rattle.vlt_core_laws.specs.Unbroken.{EachEmpty}
 
 abbrev first_rows : Program → List Rules
 first_rows p = map set_broken p.sets ++ flat_map (λ q. type_rows p q.0 q.1) (enumerate_from 0 p.types)

@@ -56,17 +56,11 @@ abbrev mutual
 abbrev pub IsRuled : Mode → (before after : Option States) → Type 0
 IsRuled kept None None = Unit {0}
 IsRuled kept (Some a) (Some b) = Unit {0}
-IsRuled kept None (Some b) = ⊥
-IsRuled kept (Some a) None = ⊥
 IsRuled taken before None = Unit {0}
-IsRuled taken before (Some b) = ⊥
 IsRuled given None after = Unit {0}
-IsRuled given (Some a) after = ⊥
 IsRuled fresh None after = Unit {0}
-IsRuled fresh (Some a) after = ⊥
 IsRuled (up_to b) None None = Unit {0}
-IsRuled (up_to b) None (Some a) = ⊥
-IsRuled (up_to b) (Some a) after = ⊥
+IsRuled _ before after = ⊥
 
 abbrev pub IsRuledEntry : Entry → Type 0
 IsRuledEntry e = IsRuled e.mode e.before e.after

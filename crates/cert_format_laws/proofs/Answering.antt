@@ -24,7 +24,7 @@ use Rattle.cert_format_laws.proofs.BodyWritten.{same_list}
 use Rattle.cert_format_laws.proofs.Decoding.{joined, no_end, map_joined, all_left, all_right, head_same, tail_same}
 use Rattle.cert_format_laws.proofs.Taking.{one_list}
 use Rattle.cert_format_laws.proofs.Written.{type_pieces, fn_piece, fn_pieces, pieces_of, AreGood, sets_good}
-use Rattle.cert_format_laws.proofs.Folded.{sets_of, types_of, fns_of, all_of, program_of}
+use Rattle.cert_format_laws.specs.Pieces.{sets_of, types_of, fns_of, all_of, program_of}
 
 -- ---- texts
 

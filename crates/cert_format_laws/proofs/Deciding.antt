@@ -18,7 +18,8 @@ use Rattle.cert_format.specs.Readings.{not_plain, not_array, no_version, at_row,
 use Rattle.cert_format_laws.proofs.Decoding.{joined, no_end, map_joined, all_joined, row_said, nothing_there, head_same, tail_same}
 use Rattle.cert_format_laws.proofs.Redrafted.{both_so, first_none}
 use Rattle.cert_format_laws.proofs.Pieced.{pieced}
-use Rattle.cert_format_laws.proofs.Folded.{program_of, all_of, sets_of, types_of, fns_of, sets_fit, types_fit, fns_fit, few, unplaced_fns, made}
+use Rattle.cert_format_laws.proofs.Folded.{sets_fit, types_fit, fns_fit, few, unplaced_fns, made}
+use Rattle.cert_format_laws.specs.Pieces.{program_of, all_of, sets_of, types_of, fns_of}
 use Rattle.cert_format_laws.proofs.Answering.{IsPlainText, AreSaid, body_same}
 
 -- ---- the text between the marks

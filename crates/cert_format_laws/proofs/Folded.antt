@@ -4,62 +4,22 @@ use Rattle.std.specs.List.{flat_map}
 use Rattle.std.proofs.lemmas.Bool.Decides.{nat_tests}
 use Rattle.serde_json.specs.Data.{Data}
 use Rattle.vlt_core.specs.Core as core
-use Rattle.vlt_core.specs.Core.{SetDecl, TypeDecl, Func, Program}
+use Rattle.vlt_core.specs.Core.{TypeDecl, Program}
 use Rattle.cert_format.specs.Places.{unplaced_func}
 use Rattle.cert_rows.specs.Parts.{All}
 use Rattle.cert_rows.specs.Values.{Shape}
 use Rattle.cert_rows.specs.Rows.{FnRow, states, abstract_type, struct_type, variant_type, case_of, function, external, row_data, FitsRow, row_part}
 use Rattle.cert_format.specs.Drafts.{Drafts, list_rows, is_whole_list}
-use Rattle.cert_format.specs.Notes.{Note, maps_of}
+use Rattle.cert_format.specs.Notes.{maps_of}
 use Rattle.cert_format.specs.Bodies.{list_draft, core_list, list_notes}
 use Rattle.cert_format.specs.Endings.{wrong_list}
-use Rattle.cert_format.specs.Certificate.{shape, fn_shape, type_rows, fn_row, function_rows, functions_data, main_from, FitsFunction, FitFunctions}
+use Rattle.cert_format.specs.Certificate.{shape, fn_shape, type_rows, fn_row, function_rows, functions_data, FitsFunction, FitFunctions}
 use Rattle.cert_format.specs.Pieces.{Piece, a_set, an_abstract, a_struct, a_variant, an_external, a_function, piece_rows, with_piece, func_of, head_shape, piece_data, pieces_data, IsPiece, ArePieces, wrong_pieces, are_whole}
+use Rattle.cert_format_laws.specs.Pieces.{type_in, sets_of, types_of, fns_of, all_of}
 use Rattle.cert_format_laws.proofs.Decoding.{joined, no_end, map_joined, all_joined}
 use Rattle.cert_format_laws.proofs.Noted.{all_said, notes_ascend}
 use Rattle.cert_format_laws.proofs.Redrafted.{list_redrafted, list_within, list_bare, lengths_same, both_so, first_none}
 use Rattle.cert_format_laws.proofs.Written.{same_shape, same_bounds}
-
--- ---- the program of pieces
-
-abbrev pub set_in : Piece → List SetDecl
-set_in (a_set d) = d ∷ []
-set_in x = []
-
-abbrev pub type_in : Piece → List TypeDecl
-type_in (an_abstract name set) = core.an_abstract name set ∷ []
-type_in (a_struct d) = core.a_struct d ∷ []
-type_in (a_variant name h count cases) = core.a_variant (record { name = name; header = h; cases = cases }) ∷ []
-type_in x = []
-
-abbrev pub fn_in : Piece → List Func
-fn_in (an_external f) = func_of true f core.done ∷ []
-fn_in (a_function f ss) = func_of false f (core_list ss) ∷ []
-fn_in x = []
-
-abbrev pub notes_in : Piece → List (List Note)
-notes_in (an_external f) = [] ∷ []
-notes_in (a_function f ss) = list_notes 0 ss ∷ []
-notes_in x = []
-
-abbrev pub sets_of : List Piece → List SetDecl
-sets_of [] = []
-sets_of (x ∷ xs) = set_in x ++ sets_of xs
-
-abbrev pub types_of : List Piece → List TypeDecl
-types_of [] = []
-types_of (x ∷ xs) = type_in x ++ types_of xs
-
-abbrev pub fns_of : List Piece → List Func
-fns_of [] = []
-fns_of (x ∷ xs) = fn_in x ++ fns_of xs
-
-abbrev pub all_of : List Piece → List (List Note)
-all_of [] = []
-all_of (x ∷ xs) = notes_in x ++ all_of xs
-
-abbrev pub program_of : List Piece → Program
-program_of ps = record { sets = sets_of ps; types = types_of ps; fns = fns_of ps; main = main_from 0 (fns_of ps) }
 
 -- ---- phases
 

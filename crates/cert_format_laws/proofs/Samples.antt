@@ -12,7 +12,7 @@ use Rattle.cert_format.specs.Notes.{Note, at_loop, at_join}
 use Rattle.cert_format.specs.Certificate.{program_data, most_declarations}
 use Rattle.cert_format.specs.Pieces.{empty_program, first_fault}
 use Rattle.cert_format_laws.proofs.Taking.{Many, take_pieces}
-use Rattle.cert_format_laws.proofs.Folded.{program_of, all_of}
+use Rattle.cert_format_laws.specs.Pieces.{program_of, all_of}
 
 abbrev all_read : Many → Program × List (List Note) × Option ℕ
 all_read x = (program_of x.0, all_of x.0, first_fault x.0 x.1)

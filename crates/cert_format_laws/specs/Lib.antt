@@ -3,3 +3,4 @@ pub mod Versions
 pub mod Texts
 pub mod Bodies
 pub mod Places
+pub mod Pieces

@@ -27,8 +27,8 @@ fn part_type(ty: &Ty) -> TypeId
     }
 }
 
-fn is_fast(p: &Program, ty: &Ty) -> bool
-    ensures { result ≡ t.is_fast (program_of p.now) (view.ty_of ty.now) }
+fn is_undroppable_part(p: &Program, ty: &Ty) -> bool
+    ensures { result ≡ t.is_undroppable_part (program_of p.now) (view.ty_of ty.now) }
 {
     match ty {
         Ty::Own(states, number, _) => {
@@ -42,7 +42,7 @@ fn is_fast(p: &Program, ty: &Ty) -> bool
 fn is_part_marked(p: &Program, marks: &[bool], ty: &Ty) -> bool
     ensures { result ≡ r.part_marked (program_of p.now) marks.now (view.ty_of ty.now) }
 {
-    ty.is_owning() && (is_fast(p, ty) || is_marked(marks, part_type(ty)))
+    ty.is_owning() && (is_undroppable_part(p, ty) || is_marked(marks, part_type(ty)))
 }
 
 fn is_field_marked(p: &Program, marks: &[bool], fields: &[FieldDecl]) -> bool

@@ -11,7 +11,7 @@ use Rattle.cert_format.specs.Endings.{or_else}
 use Rattle.cert_format.specs.Certificate.{most_declarations}
 use Rattle.cert_format.specs.Pieces.{Piece, a_set, an_abstract, a_struct, a_variant, an_external, a_function, piece_rows, is_whole_piece, empty_program, with_piece, piece_data, pieces_data, pieces_rows, IsPiece, IsEnd, ArePieces, wrong_piece, wrong_pieces, are_whole, is_nothing}
 use Rattle.cert_format_laws.proofs.Decoding.{joined, no_end}
-use Rattle.cert_format_laws.proofs.Folded.{set_in, type_in, fn_in, notes_in, sets_of, types_of, fns_of, all_of}
+use Rattle.cert_format_laws.specs.Pieces.{set_in, type_in, fn_in, notes_in, sets_of, types_of, fns_of, all_of}
 use Rattle.cert_read.specs.Declarations.{phase_number, values_at, BeginsNone, IsRead, Adds, AreOf, AreRead}
 use Rattle.cert_read.specs.declared.declarations.Declarations.{Declarations}
 use Rattle.cert_read.proofs.OneRow.{or_none}

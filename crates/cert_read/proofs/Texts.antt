@@ -16,8 +16,9 @@ use Rattle.cert_format.specs.Pieces.{empty_program, pieces_data, ArePieces, are_
 use Rattle.cert_format.specs.Readings.{IsNotJson, IsFormRefusal, not_plain, not_array, at_row, Reading, certificate, not_json, not_of_its_form, IsReading}
 use Rattle.cert_format_laws.proofs.Answering.{body_same, one_reading}
 use Rattle.cert_format_laws.proofs.Deciding.{fault_none, certified}
-use Rattle.cert_format_laws.proofs.Folded as folded
-use Rattle.cert_format_laws.proofs.Folded.{sets_of, types_of, all_of, few}
+use Rattle.cert_format_laws.specs.Pieces as folded
+use Rattle.cert_format_laws.proofs.Folded.{few}
+use Rattle.cert_format_laws.specs.Pieces.{sets_of, types_of, all_of}
 use Rattle.cert_read.specs.Declarations.{notes_of_all, values_at, AreRead}
 use Rattle.cert_read.specs.Certificates.{IsOfVersion, IsReadAs, Is, IsParsed, IsPlainJson, IsCertificateWith}
 use Rattle.cert_read.specs.declared.declarations.Declarations.{Declarations}

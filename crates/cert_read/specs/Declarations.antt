@@ -15,7 +15,7 @@ use Rattle.cert_format.specs.Endings.{or_else}
 use Rattle.cert_format.specs.Certificate.{shape, most_declarations}
 use Rattle.cert_format.specs.Pieces as pieces
 use Rattle.cert_format.specs.Pieces.{Piece, piece_rows, phase_of, is_whole_piece, empty_program, with_piece, has_known_bounds, piece_data, pieces_data, IsPiece, is_begun, ArePieces, wrong_piece, first_fault}
-use Rattle.cert_format_laws.proofs.Folded.{fn_in, notes_in, sets_of, types_of, fns_of, all_of}
+use Rattle.cert_format_laws.specs.Pieces.{fn_in, notes_in, sets_of, types_of, fns_of, all_of}
 use Rattle.cert_read_bodies.specs.Notes.{note_of}
 use Rattle.cert_read_bodies.specs.declared.notes.MapsNote.{MapsNote}
 use Rattle.cert_read.specs.Cases.{decls_at, first_at}

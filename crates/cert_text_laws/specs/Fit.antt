@@ -4,7 +4,8 @@ use Rattle.vlt_core.specs.Kinded.{IsKinded}
 use Rattle.vlt_core.specs.View.{program_of}
 use Rattle.vlt_core.specs.declared.program.Program.{Program}
 use Rattle.vlt_fit_laws.specs.Fit.{IsFitProgram}
-use Rattle.c_lower_accepted.specs.Accepted.{IsAcceptedProgram, RunsAlike, IsDefined}
+use Rattle.c_lower_accepted.specs.Accepted.{IsAcceptedProgram}
+use Rattle.c_lower_accepted.specs.Promise.{RunsAlike, IsDefined}
 use Rattle.cert_format.specs.Notes.{Note}
 use Rattle.cert_format.specs.Certificate.{FitsCertificate}
 use Rattle.cert_fit_laws.specs.Annotation.{IsVerified}

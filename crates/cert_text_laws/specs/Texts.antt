@@ -1,6 +1,7 @@
 -- Programs of texts keep the limits of certificates, and their functions have few statements.
 use Rattle.std.specs.Prelude.{◌≡◌, ◌≤◌, ◌⊎◌, ℕ, List, [], ◌∷◌, length, Some, slice_get}
 use Rattle.vlt_base.specs.Limits.{limit_of}
+use Rattle.vlt_base.specs.declared.limits.TheConstants.{TOKENS}
 use Rattle.vlt_tokens.specs.Lexemes.{Lexeme}
 use Rattle.vlt_lexer.specs.Text.{IsTokensOf}
 use Rattle.vlt_syntax.specs.Tokens.{Token, tokens_in}
@@ -29,7 +30,7 @@ pub record IsInText (x : Token) : Type 0 where
 
 -- with some tokens after it the declaration has no more than a text may have
 abbrev pub IsShort : Decl → Type 0
-IsShort d = (rest : List Token) × (length (decl_then d rest) ≤ limit_of 3)
+IsShort d = (rest : List Token) × (length (decl_then d rest) ≤ limit_of TOKENS)
 
 -- The program is what elaboration gives of a tree, which one text spells or several: each token of
 -- the tree is one of a text, and no declaration has more of them than a text may have.

@@ -14,7 +14,8 @@ use Rattle.vlt_core.specs.Types.{decl_of}
 use Rattle.vlt_core.specs.declared.rules.TheConstants as rule
 use Rattle.vlt_core_laws.proofs.Binding.{in_range}
 use Rattle.vlt_core_laws.proofs.Ids.{or_split}
-use Rattle.vlt_core_laws.proofs.Unbroken.{EachEmpty, filled_not_empty, some_not_none, some_same, left_empty, right_empty, unless_holds}
+use Rattle.vlt_core_laws.proofs.Unbroken.{filled_not_empty, some_not_none, some_same, left_empty, right_empty, unless_holds}
+use Rattle.vlt_core_laws.specs.Unbroken.{EachEmpty}
 use Rattle.cert_rows.specs.Parts.{All}
 use Rattle.cert_fit_laws.specs.Limits.{IsLimitedType, IsLimitedProgram}
 use Rattle.cert_fit_laws.proofs.Listed.{all_at}

@@ -10,7 +10,7 @@ use Rattle.vlt_core.specs.KindedBodies.{first_ids, stmts_rows}
 use Rattle.vlt_core.specs.KindedHeads.{type_broken}
 use Rattle.vlt_core.specs.Maps.{is_tok}
 use Rattle.vlt_core_laws.proofs.Headed.{function_empty, head_empty, each_at, ranged_keys}
-use Rattle.vlt_core_laws.proofs.Unbroken.{EachEmpty}
+use Rattle.vlt_core_laws.specs.Unbroken.{EachEmpty}
 use Rattle.vlt_faults.specs.Judge.Extents.{last_key, last_var}
 use Rattle.vlt_faults.specs.Judge.Faulty.{HasNoNumber, many_statements, many_spots, names_last_key, names_last_var}
 use Rattle.vlt_fit_laws.specs.Unfit.{IsStillUnfit, HasUnfitBody}

@@ -21,7 +21,8 @@ use Rattle.vlt_core.specs.KindedBodies.{ends, arm_cases, switch_broken, owning_t
 use Rattle.vlt_core.specs.declared.rules.TheConstants as rule
 use Rattle.vlt_core_laws.proofs.Good.{AllRows}
 use Rattle.vlt_core_laws.proofs.Ids.{type_keys}
-use Rattle.vlt_core_laws.proofs.Unbroken.{EachEmpty, left_empty, right_empty, unless_holds, each_left, each_right}
+use Rattle.vlt_core_laws.proofs.Unbroken.{left_empty, right_empty, unless_holds, each_left, each_right}
+use Rattle.vlt_core_laws.specs.Unbroken.{EachEmpty}
 use Rattle.vlt_rows.specs.Unfit.{HasPart, HasPartBlock, HasPartStmts, HasPartArms}
 use Rattle.vlt_faults.specs.Judge.Extents.{AvoidsRows, Avoids, AvoidsBlock, AvoidsStmts, AvoidsArms}
 use Rattle.vlt_witness.specs.Unfit.{arm_count, HasManyArms, NoRows}

@@ -1,6 +1,7 @@
 -- What is emitted of a text's program verifies.
 use Rattle.std.specs.Prelude.{◌≡◌, ◌≤◌, List, ◌++◌, length}
 use Rattle.vlt_base.specs.Limits.{limit_of}
+use Rattle.vlt_base.specs.declared.limits.TheConstants.{C_BYTES}
 use Rattle.vlt_core.specs.Core.{Program}
 use Rattle.vlt_core.specs.Derives.{IsAccepted}
 use Rattle.c_syntax.specs.Canonical.{canonical_text}
@@ -24,7 +25,7 @@ LeastCertificatesFit =
 abbrev pub EmittedFilesVerify : Type 0
 EmittedFilesVerify =
     (p : Program) (all : List (List Note)) → IsProgramOfTexts p →
-    IsAccepted p → IsLeastCertificate p all → length (canonical_text (lowered p)) ≤ limit_of 2 →
+    IsAccepted p → IsLeastCertificate p all → length (canonical_text (lowered p)) ≤ limit_of C_BYTES →
     IsVerifiedFile (canonical_text (lowered p) ++ certificate_of p all) (unplaced_program p) all
 
 -- Without its places a program has as many functions with a body.

@@ -11,7 +11,7 @@ use Rattle.c_meaning.specs.Run.{c_run}
 use Rattle.c_lower.specs.Lowering.{lowered}
 use Rattle.c_lower_worlds.specs.Given.{IsFed}
 use Rattle.c_lower_runs.specs.SameRuns.{AreTheSame, is_undefined}
-use Rattle.c_lower_accepted.specs.Accepted.{RunsAlike, IsDefined}
+use Rattle.c_lower_accepted.specs.Promise.{RunsAlike, IsDefined}
 use Rattle.cert_format.specs.Notes.{Note}
 use Rattle.cert_verify.specs.Verified.{IsVerifiedFile}
 

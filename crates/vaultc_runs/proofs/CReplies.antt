@@ -13,7 +13,7 @@ use Rattle.vlt_steps.specs.declared.end.RunEnd.TheVariants.{BadInput, BadAnswers
 use Rattle.vlt_steps.specs.Writing.{IsUntouched}
 use Rattle.c_syntax.specs.C.{Program}
 use Rattle.c_syntax.specs.Reading.{IsCProgramOf}
-use Rattle.c_machine.specs.Bounds.{slots_needed}
+use Rattle.c_meaning.specs.Widths.{slots_needed}
 use Rattle.c_meaning.specs.World.{Ran, event_text}
 use Rattle.c_meaning.specs.Run.{c_run}
 use Rattle.c_reader.specs.Reads.{IsUnread}

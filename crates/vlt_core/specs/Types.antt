@@ -65,10 +65,10 @@ abbrev pub owning_parts : Program → (type : ℕ) → List Ty
 owning_parts p t = filter is_owning (map (λ d. d.ty) (fields_of p t) ++ flat_map (λ c. c.payload) (cases_of p t))
 
 -- a part that no release may reach: an object that isn't a struct's, or that may be in a state outside its release set
-abbrev pub is_fast : Program → Ty → Bool
-is_fast p (owning states t args) = not (is_struct (decl_of p t) && lies_within states (release_set p t))
-is_fast p (owning_variant t args) = not (is_variant (decl_of p t)) || is_keyed p t
-is_fast p ty = false
+abbrev pub is_undroppable_part : Program → Ty → Bool
+is_undroppable_part p (owning states t args) = not (is_struct (decl_of p t) && lies_within states (release_set p t))
+is_undroppable_part p (owning_variant t args) = not (is_variant (decl_of p t)) || is_keyed p t
+is_undroppable_part p ty = false
 
 abbrev pub part_type : Ty → ℕ
 part_type (owning states t args) = t
@@ -79,20 +79,20 @@ part_type (variant t args) = t
 part_type _ = 0
 
 -- such a part is reached from the type through at most so many others
-abbrev pub holds_fast : Program → (steps : ℕ) → (type : ℕ) → Bool
-holds_fast p zero t = list_any (is_fast p) (owning_parts p t)
-holds_fast p (suc n) t =
-    list_any (is_fast p) (owning_parts p t) || list_any (λ ty. holds_fast p n (part_type ty)) (owning_parts p t)
+abbrev pub holds_undroppable : Program → (steps : ℕ) → (type : ℕ) → Bool
+holds_undroppable p zero t = list_any (is_undroppable_part p) (owning_parts p t)
+holds_undroppable p (suc n) t =
+    list_any (is_undroppable_part p) (owning_parts p t) || list_any (λ ty. holds_undroppable p n (part_type ty)) (owning_parts p t)
 
 -- A struct may be dropped where no such part is reached from it. A chain without a repeated type is no longer than the types.
 abbrev pub is_droppable_struct : Program → (type : ℕ) → Bool
-is_droppable_struct p t = is_struct (decl_of p t) && not (holds_fast p (length p.types) t)
+is_droppable_struct p t = is_struct (decl_of p t) && not (holds_undroppable p (length p.types) t)
 
 -- a value of the type may be dropped with all that it owns
 abbrev pub is_droppable : Program → Ty → Bool
 is_droppable p (owning states t args) = is_droppable_struct p t && lies_within states (release_set p t)
 is_droppable p (owning_variant t args) =
-    is_variant (decl_of p t) && not (is_keyed p t) && not (holds_fast p (length p.types) t)
+    is_variant (decl_of p t) && not (is_keyed p t) && not (holds_undroppable p (length p.types) t)
 is_droppable p ty = false
 
 -- a value of the type may be copied

@@ -5,7 +5,7 @@ use Rattle.std.proofs.lemmas.Option.{slice_get_past}
 use Rattle.std.specs.List.{list_any, flat_map}
 use Rattle.vlt_core.specs.Core.{Ty, Program, TypeDecl}
 use Rattle.vlt_core.specs.Lookups.{is_owning, fields_in, cases_in}
-use Rattle.vlt_core.specs.Types.{owning_parts, is_fast, part_type, holds_fast}
+use Rattle.vlt_core.specs.Types.{owning_parts, is_undroppable_part, part_type, holds_undroppable}
 use Rattle.vlt_core_laws.specs.Parts.{IsAmong, IsFree}
 use Rattle.vlt_core_laws.proofs.Counting.{count, count_all, AreSame, count_grows}
 
@@ -48,10 +48,10 @@ any_same a b same (u ∷ us) = rw (same u, any_same a b same us) refl
 
 module _ (p : Program) where
   abbrev fast : (type : ℕ) → Bool
-  fast t = list_any (is_fast p) (owning_parts p t)
+  fast t = list_any (is_undroppable_part p) (owning_parts p t)
 
   abbrev reaches : (steps : ℕ) → (type : ℕ) → Bool
-  reaches n t = list_any (λ ty. holds_fast p n (part_type ty)) (owning_parts p t)
+  reaches n t = list_any (λ ty. holds_undroppable p n (part_type ty)) (owning_parts p t)
 
   -- a type that isn't declared has no parts
   past_has_none : (t : ℕ) → length p.types ≤ t → owning_parts p t ≡ []
@@ -60,30 +60,30 @@ module _ (p : Program) where
       parts_in : Option TypeDecl → List Ty
       parts_in o = filter is_owning (map (λ d. d.ty) (fields_in o) ++ flat_map (λ c. c.payload) (cases_in o))
 
-  past_is_free : (n t : ℕ) → length p.types ≤ t → holds_fast p n t ≡ false
-  past_is_free zero t le = ap (list_any (is_fast p)) (past_has_none t le)
+  past_is_free : (n t : ℕ) → length p.types ≤ t → holds_undroppable p n t ≡ false
+  past_is_free zero t le = ap (list_any (is_undroppable_part p)) (past_has_none t le)
   past_is_free (suc n) t le =
-      ap (λ tys. list_any (is_fast p) tys || list_any (λ ty. holds_fast p n (part_type ty)) tys) (past_has_none t le)
+      ap (λ tys. list_any (is_undroppable_part p) tys || list_any (λ ty. holds_undroppable p n (part_type ty)) tys) (past_has_none t le)
 
   -- a step more finds more
-  grows : (n t : ℕ) → holds_fast p n t ≡ true → holds_fast p (suc n) t ≡ true
+  grows : (n t : ℕ) → holds_undroppable p n t ≡ true → holds_undroppable p (suc n) t ≡ true
   grows zero t e = or_left (fast t) (reaches zero t) e
   grows (suc n) t e =
       or_more (fast t) (reaches n t) (reaches (suc n) t)
-      (any_more (λ ty. holds_fast p n (part_type ty)) (λ ty. holds_fast p (suc n) (part_type ty))
+      (any_more (λ ty. holds_undroppable p n (part_type ty)) (λ ty. holds_undroppable p (suc n) (part_type ty))
       (λ ty. grows n (part_type ty)) (owning_parts p t)) e
 
   -- one step more finds no more
   abbrev IsStable : ℕ → Type 0
-  IsStable n = (t : ℕ) → holds_fast p (suc n) t ≡ holds_fast p n t
+  IsStable n = (t : ℕ) → holds_undroppable p (suc n) t ≡ holds_undroppable p n t
 
   stays_stable : (n : ℕ) → IsStable n → IsStable (suc n)
   stays_stable n stable t =
       ap (λ b. fast t || b)
-      (any_same (λ ty. holds_fast p n (part_type ty)) (λ ty. holds_fast p (suc n) (part_type ty))
+      (any_same (λ ty. holds_undroppable p n (part_type ty)) (λ ty. holds_undroppable p (suc n) (part_type ty))
       (λ ty. stable (part_type ty)) (owning_parts p t))
 
-  from_same : (n : ℕ) → AreSame (holds_fast p n) (holds_fast p (suc n)) (length p.types) → IsStable n
+  from_same : (n : ℕ) → AreSame (holds_undroppable p n) (holds_undroppable p (suc n)) (length p.types) → IsStable n
   from_same n same t = ⊎_elim
       (λ lt. same t lt)
       (λ le. past_is_free (suc n) t le ∙ sym (past_is_free n t le))
@@ -93,8 +93,8 @@ module _ (p : Program) where
       below_or a b = ⊎_elim (λ e. inl (ltb-true a b e)) (λ e. inr (ltb-false a b e)) (cases_Bool (nat_lt a b))
 
   -- it is so, or so many types are found
-  counted : (n : ℕ) → IsStable n ⊎ (suc n ≤ count (holds_fast p n) (length p.types))
-  counted zero = by (count_grows (λ t. false) (holds_fast p zero) (λ t e. absurd (never e)) (length p.types))
+  counted : (n : ℕ) → IsStable n ⊎ (suc n ≤ count (holds_undroppable p n) (length p.types))
+  counted zero = by (count_grows (λ t. false) (holds_undroppable p zero) (λ t e. absurd (never e)) (length p.types))
     where
       never : false ≡ true → ⊥
       never e = cc
@@ -106,30 +106,30 @@ module _ (p : Program) where
           none [] = refl
           none (u ∷ us) = none us
 
-      all_free : AreSame (λ t. false) (holds_fast p zero) (length p.types) → (t : ℕ) → holds_fast p zero t ≡ false
+      all_free : AreSame (λ t. false) (holds_undroppable p zero) (length p.types) → (t : ℕ) → holds_undroppable p zero t ≡ false
       all_free same t = ⊎_elim
           (λ e. same t (ltb-true t (length p.types) e))
           (λ e. past_is_free zero t (ltb-false t (length p.types) e))
           (cases_Bool (nat_lt t (length p.types)))
 
-      by : (AreSame (λ t. false) (holds_fast p zero) (length p.types) ×
-          (count (λ t. false) (length p.types) ≤ count (holds_fast p zero) (length p.types))) ⊎
-          (count (λ t. false) (length p.types) + 1 ≤ count (holds_fast p zero) (length p.types)) →
-          IsStable zero ⊎ (1 ≤ count (holds_fast p zero) (length p.types))
+      by : (AreSame (λ t. false) (holds_undroppable p zero) (length p.types) ×
+          (count (λ t. false) (length p.types) ≤ count (holds_undroppable p zero) (length p.types))) ⊎
+          (count (λ t. false) (length p.types) + 1 ≤ count (holds_undroppable p zero) (length p.types)) →
+          IsStable zero ⊎ (1 ≤ count (holds_undroppable p zero) (length p.types))
       by (inl same) =
           let free = all_free same.0 in
-          inl (λ t. rw (any_same (λ ty. false) (λ ty. holds_fast p zero (part_type ty)) (λ ty. free (part_type ty)) (owning_parts p t), nothing t, free t) refl)
+          inl (λ t. rw (any_same (λ ty. false) (λ ty. holds_undroppable p zero (part_type ty)) (λ ty. free (part_type ty)) (owning_parts p t), nothing t, free t) refl)
       by (inr more) = inr (omega arith)
   counted (suc n) = ⊎_elim
       (λ stable. inl (stays_stable n stable))
-      (λ many. by many (count_grows (holds_fast p n) (holds_fast p (suc n)) (grows n) (length p.types)))
+      (λ many. by many (count_grows (holds_undroppable p n) (holds_undroppable p (suc n)) (grows n) (length p.types)))
       (counted n)
     where
-      by : suc n ≤ count (holds_fast p n) (length p.types) →
-          (AreSame (holds_fast p n) (holds_fast p (suc n)) (length p.types) ×
-          (count (holds_fast p n) (length p.types) ≤ count (holds_fast p (suc n)) (length p.types))) ⊎
-          (count (holds_fast p n) (length p.types) + 1 ≤ count (holds_fast p (suc n)) (length p.types)) →
-          IsStable (suc n) ⊎ (suc (suc n) ≤ count (holds_fast p (suc n)) (length p.types))
+      by : suc n ≤ count (holds_undroppable p n) (length p.types) →
+          (AreSame (holds_undroppable p n) (holds_undroppable p (suc n)) (length p.types) ×
+          (count (holds_undroppable p n) (length p.types) ≤ count (holds_undroppable p (suc n)) (length p.types))) ⊎
+          (count (holds_undroppable p n) (length p.types) + 1 ≤ count (holds_undroppable p (suc n)) (length p.types)) →
+          IsStable (suc n) ⊎ (suc (suc n) ≤ count (holds_undroppable p (suc n)) (length p.types))
       by many (inl same) = inl (stays_stable n (from_same n same.0))
       by many (inr more) = inr (omega arith)
 
@@ -137,22 +137,22 @@ module _ (p : Program) where
   stable_below n is = ⊎_elim
       (λ stable. stable)
       (λ many.
-      let all = count_all (holds_fast p n) (length p.types) (omega arith) in
+      let all = count_all (holds_undroppable p n) (length p.types) (omega arith) in
       from_same n (λ t lt. grows n t (all t lt) ∙ sym (all t lt)))
       (counted n)
 
   -- what is part of a type that may be dropped may be dropped, and so may its own parts
   pub part_is_free : (t : ℕ) → IsFree p t → (ty : Ty) → IsAmong ty (owning_parts p t) →
-      (is_fast p ty ≡ false) × IsFree p (part_type ty)
+      (is_undroppable_part p ty ≡ false) × IsFree p (part_type ty)
   part_is_free t free ty i = by (length p.types) refl free.is
     where
-      by : (n : ℕ) → length p.types ≡ n → holds_fast p n t ≡ false → (is_fast p ty ≡ false) × IsFree p (part_type ty)
+      by : (n : ℕ) → length p.types ≡ n → holds_undroppable p n t ≡ false → (is_undroppable_part p ty ≡ false) × IsFree p (part_type ty)
       by zero is e = absurd (subst (IsAmong ty) (past_has_none t (omega arith)) i)
       by (suc n) is e =
           let both = or_none (fast t) (reaches n t) e in (
-            none_among (is_fast p) (owning_parts p t) both.0 ty i,
+            none_among (is_undroppable_part p) (owning_parts p t) both.0 ty i,
             record {
-              is = ap (λ n. holds_fast p n (part_type ty)) is ∙ (stable_below n is (part_type ty) ∙
-                  none_among (λ ty. holds_fast p n (part_type ty)) (owning_parts p t) both.1 ty i);
+              is = ap (λ n. holds_undroppable p n (part_type ty)) is ∙ (stable_below n is (part_type ty) ∙
+                  none_among (λ ty. holds_undroppable p n (part_type ty)) (owning_parts p t) both.1 ty i);
             },
           )

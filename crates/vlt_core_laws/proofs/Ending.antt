@@ -9,7 +9,8 @@ use Rattle.vlt_core.specs.KindedScopes.{Ids, Around, at_block_start, left_behind
 use Rattle.vlt_core.specs.KindedBodies.{in_focus, with_focus, with_vars, ends, block_ends, list_ends, arms_end, ids_following, ids_following_block, row_broken, form_rows, block_rows, stmts_rows, arms_rows}
 use Rattle.vlt_core.specs.declared.rules.TheConstants as rule
 use Rattle.vlt_core_laws.specs.Arms.{IsSomeArm, HasArms, HasArmsBlock, HasArmsStmts, HasArmsArms}
-use Rattle.vlt_core_laws.proofs.Unbroken.{EachEmpty, left_empty, right_empty, unless_holds, each_left, each_right}
+use Rattle.vlt_core_laws.proofs.Unbroken.{left_empty, right_empty, unless_holds, each_left, each_right}
+use Rattle.vlt_core_laws.specs.Unbroken.{EachEmpty}
 use Rattle.vlt_core_laws.proofs.Ids.{not_both, is_false, or_left, true_or_false}
 
 or_false : (a b : Bool) → (a || b) ≡ false → (a ≡ false) × (b ≡ false)

@@ -20,7 +20,8 @@ use Rattle.vlt_core_laws.specs.Shown.{AreFilled}
 use Rattle.vlt_core_laws.specs.States.{HasStates, OwnsFilled}
 use Rattle.vlt_core_laws.specs.Heads.{HaveNewResults}
 use Rattle.vlt_core_laws.specs.Arms.{HasArms, HasArmsBlock, HasArmsStmts, HasArmsArms}
-use Rattle.vlt_core_laws.proofs.Unbroken.{EachEmpty, left_empty, right_empty, unless_holds, each_left, each_right}
+use Rattle.vlt_core_laws.proofs.Unbroken.{left_empty, right_empty, unless_holds, each_left, each_right}
+use Rattle.vlt_core_laws.specs.Unbroken.{EachEmpty}
 use Rattle.vlt_core_laws.proofs.Ids.{was, type_keys, AreTyped, Goes, or_split, or_left, or_right, not_both, is_false, true_or_false, was_not, bound_append, same_number, var_is}
 use Rattle.vlt_core_laws.proofs.Binding.{has_first, IsInRange, binding_goes, binding_ever, own_in_range}
 use Rattle.vlt_core_laws.proofs.Good.{Good, AllRows, in_scope, plain, filled, all_both, all_filled, KeysIn, guard_in, empty_good, fill_good, made_good}

@@ -4,7 +4,8 @@ use Rattle.vlt_core.specs.Core.{Tok}
 use Rattle.vlt_core.specs.Flow.{Flow, step, choose, loop, switch, scope, focus, return, jump, Block, block, Stmts, done, next, Arms, no_arms, arm, size, size_block}
 use Rattle.vlt_core.specs.Found.{One, Ones, images, out, to_next, head_of}
 use Rattle.vlt_core_laws.proofs.Smooth.{smooth_images, smooth_form, smooth_heads}
-use Rattle.vlt_core_laws.proofs.Sweeping.{smooth_round, Fits, FitsBlock, FitsStmts, FitsArms, IsSameOnes}
+use Rattle.vlt_core_laws.proofs.Sweeping.{smooth_round}
+use Rattle.vlt_core_laws.specs.Sweep.{Fits, FitsBlock, FitsStmts, FitsArms, IsSameOnes}
 
 same_trans : (A S T : Ones) → IsSameOnes A S → ((o : One) → S o → T o) → ((o : One) → T o → S o) → IsSameOnes A T
 same_trans A S T z f g = record { there = λ o x. f o (z.there o x); back = λ o x. z.back o (g o x) }

@@ -10,7 +10,8 @@ use Rattle.vlt_core.specs.KindedStatements.{with_bindings, opened_broken, simple
 use Rattle.vlt_core.specs.KindedCalls.{is_fresh_call, with_call_target, call_target_broken, call_broken}
 use Rattle.vlt_core.specs.KindedBodies.{in_loop, in_focus, with_focus, with_vars, ends, ids_following, ids_following_block, ids_following_stmts, ids_following_arms, row_broken, form_rows, block_rows, stmts_rows, arms_rows}
 use Rattle.vlt_core.specs.declared.rules.TheConstants as rule
-use Rattle.vlt_core_laws.proofs.Unbroken.{EachEmpty, left_empty, right_empty, each_left, each_right}
+use Rattle.vlt_core_laws.proofs.Unbroken.{left_empty, right_empty, each_left, each_right}
+use Rattle.vlt_core_laws.specs.Unbroken.{EachEmpty}
 use Rattle.vlt_core_laws.proofs.Ids.{was, type_keys, Goes, or_right, stays, goes_on}
 use Rattle.vlt_core_laws.proofs.Binding.{binding_goes, target_goes, own_in_range}
 

@@ -11,7 +11,8 @@ use Rattle.vlt_core.specs.KindedBodies.{end_broken}
 use Rattle.vlt_core.specs.Kinded.{has_main, parts_broken, first_broken, function_rows, HasKindedParts, IsKinded}
 use Rattle.vlt_core.specs.declared.rules.TheConstants as rule
 use Rattle.vlt_core_laws.specs.Heads.{HasNewResult}
-use Rattle.vlt_core_laws.proofs.Unbroken.{EachEmpty, left_empty, right_empty, unless_holds, each_right, each_of_first, each_numbered, some_same, some_not_none}
+use Rattle.vlt_core_laws.proofs.Unbroken.{left_empty, right_empty, unless_holds, each_right, each_of_first, each_numbered, some_same, some_not_none}
+use Rattle.vlt_core_laws.specs.Unbroken.{EachEmpty}
 use Rattle.vlt_core_laws.proofs.Ids.{keys_in_type, type_keys, or_split, or_left, or_right, and_left, not_both, each_has, same_number}
 
 abbrev front_rows : Program → List Rules

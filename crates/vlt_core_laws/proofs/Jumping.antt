@@ -8,7 +8,8 @@ use Rattle.vlt_core.specs.KindedBodies.{in_loop, in_focus, with_focus, with_vars
 use Rattle.vlt_core.specs.Flow as flow
 use Rattle.vlt_core.specs.Bodies.{flow_of, flow_of_block, flow_of_stmts, flow_of_arms}
 use Rattle.vlt_core_laws.specs.Scoped.{IsJumping, IsJumpingBlock, IsJumpingStmts, IsJumpingArms}
-use Rattle.vlt_core_laws.proofs.Unbroken.{EachEmpty, right_empty, unless_holds, each_left, each_right}
+use Rattle.vlt_core_laws.proofs.Unbroken.{right_empty, unless_holds, each_left, each_right}
+use Rattle.vlt_core_laws.specs.Unbroken.{EachEmpty}
 use Rattle.vlt_core.specs.declared.rules.TheConstants as rule
 
 -- jumps that stand in loops of the part stand in loops of more

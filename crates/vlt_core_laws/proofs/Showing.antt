@@ -10,10 +10,10 @@ use Rattle.vlt_core.specs.Faults.{IsMixed}
 use Rattle.vlt_core_laws.specs.Faulted.{HasFault, HasFaultBlock, HasFaultStmts, HasFaultArms}
 use Rattle.vlt_core_laws.specs.Tame.{IsPlainWanted, IsPlainAfter, ArePlain, lend, unlend, IsFocus, IsTame, IsTameBlock, IsTameStmts, IsTameArms, IsLentOne}
 use Rattle.vlt_core_laws.specs.Shown.{one_kind, IsJust, Every, Shows, ShowsBlock, ShowsStmts, ShowsArms, IsOwnKind, IsOwn, IsInFocus, IsGood, IsOneKind, AreFilled, HasFilled, HasFilledBlock, HasFilledStmts, HasFilledArms, IsFit, IsStart, IsReadOf}
-use Rattle.vlt_core_laws.specs.Sweep.{In, Stock, IsFoundIn}
+use Rattle.vlt_core_laws.specs.Sweep.{In, Stock, IsFoundIn, Fits, FitsBlock, FitsStmts, FitsArms, IsSameOnes}
 use Rattle.vlt_core_laws.proofs.Founds.{images_empty, empty_block, same_is}
 use Rattle.vlt_core_laws.proofs.Faultless.{gone_filled, faultless_block}
-use Rattle.vlt_core_laws.proofs.Sweeping.{Fits, FitsBlock, FitsStmts, FitsArms, IsSameOnes, fits_block}
+use Rattle.vlt_core_laws.proofs.Sweeping.{fits_block}
 
 -- ---- rows
 

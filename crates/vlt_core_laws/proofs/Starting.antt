@@ -25,7 +25,8 @@ use Rattle.vlt_core_laws.specs.States.{HasStates, IsFilledSet, OwnsFilled}
 use Rattle.vlt_core_laws.specs.Heads.{HaveNewResults}
 use Rattle.vlt_core_laws.specs.Arms.{HasArmsStmts}
 use Rattle.vlt_core_laws.specs.Fit.{IsFitBody}
-use Rattle.vlt_core_laws.proofs.Unbroken.{EachEmpty, left_empty, right_empty, unless_holds, some_same, some_not_none}
+use Rattle.vlt_core_laws.proofs.Unbroken.{left_empty, right_empty, unless_holds, some_same, some_not_none}
+use Rattle.vlt_core_laws.specs.Unbroken.{EachEmpty}
 use Rattle.vlt_core_laws.proofs.Ids.{keys_in_type, type_keys, AreTyped, Goes, or_split, or_left, or_right, not_both, same_number, true_or_false, and_left, and_right}
 use Rattle.vlt_core_laws.proofs.Binding.{in_range, chosen}
 use Rattle.vlt_core_laws.proofs.Calls.{type_filled}

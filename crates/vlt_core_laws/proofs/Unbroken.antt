@@ -5,11 +5,7 @@ use Rattle.std.specs.List.{flat_map, enumerate_from}
 use Rattle.std.proofs.lemmas.List.Concat.{flat_map-cons}
 use Rattle.vlt_core.specs.KindedHeads.{Rules, unless}
 use Rattle.vlt_core.specs.Kinded.{first_broken, least_of}
-
--- each row breaks nothing
-abbrev pub EachEmpty : List Rules → Type 0
-EachEmpty [] = Unit {0}
-EachEmpty (r ∷ rs) = (r ≡ []) × EachEmpty rs
+use Rattle.vlt_core_laws.specs.Unbroken.{EachEmpty}
 
 pub filled_not_empty : {A : Type 0} (x : A) (xs : List A) → x ∷ xs ≡ [] → ⊥
 filled_not_empty x xs e = cc

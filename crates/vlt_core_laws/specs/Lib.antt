@@ -9,3 +9,4 @@ pub mod Sweep
 pub mod Shown
 pub mod FaultLaws
 pub mod Parts
+pub mod Unbroken

@@ -141,3 +141,34 @@ pub record IsFoundIn (t : Tok) (s : Block) (S : Ones) (k : Stock) : Type 0 where
 pub record IsReached (t : Tok) (s : Block) (S : Ones) (k : Stock) : Type 0 where
   pub around : (i : ℕ) (o : One) → In (k.around i) o → found_head_block t s 0 S i o
   pub following : (i : ℕ) (o : One) → In (k.following i) o → found_exit_block t s 0 S i o
+
+-- ---- what may be kept
+
+pub record IsSameOnes (S T : Ones) : Type 0 where
+  pub there : (o : One) → S o → T o
+  pub back : (o : One) → T o → S o
+
+-- what may be kept at the heads and after, by statement, is just what the part finds when P comes in
+abbrev mutual
+  pub Fits : (ℕ → Ones) → (ℕ → Ones) → Tok → Flow → ℕ → Ones → Type 0
+  Fits A B t (step rs) n P = Unit {0}
+  Fits A B t (choose rs a b) n P =
+      IsSameOnes (B n) (out t (choose rs a b) P to_next) × FitsBlock A B t a (n + 1) (images t rs P) × FitsBlock A B t b (n + 1 + size_block a) (images t rs P)
+  Fits A B t (loop rs s) n P =
+      IsSameOnes (A n) (head_of t rs s P) × IsSameOnes (B n) (out t (loop rs s) P to_next) × FitsBlock A B t s (n + 1) (images t rs (head_of t rs s P))
+  Fits A B t (switch rs arms end) n P = IsSameOnes (B n) (out t (switch rs arms end) P to_next) × FitsArms A B t arms (n + 1) (images t rs P)
+  Fits A B t (scope s) n P = FitsBlock A B t s (n + 1) P
+  Fits A B t (focus rs s es) n P = FitsBlock A B t s (n + 1) (images t rs P)
+  Fits A B t (return rs) n P = Unit {0}
+  Fits A B t (jump c left) n P = Unit {0}
+
+  pub FitsBlock : (ℕ → Ones) → (ℕ → Ones) → Tok → Block → ℕ → Ones → Type 0
+  FitsBlock A B t (block ss bound end) n P = FitsStmts A B t ss n P
+
+  pub FitsStmts : (ℕ → Ones) → (ℕ → Ones) → Tok → Stmts → ℕ → Ones → Type 0
+  FitsStmts A B t done n P = Unit {0}
+  FitsStmts A B t (next at s rest) n P = Fits A B t s n P × FitsStmts A B t rest (n + size s) (out t s P to_next)
+
+  pub FitsArms : (ℕ → Ones) → (ℕ → Ones) → Tok → Arms → ℕ → Ones → Type 0
+  FitsArms A B t no_arms n P = Unit {0}
+  FitsArms A B t (arm rs s rest) n P = FitsBlock A B t s n (images t rs P) × FitsArms A B t rest (n + size_block s) P

@@ -114,20 +114,20 @@ walk_tree t kinds =
     then_do (walk_decls kinds kinds.heads t.decls) (λ fs.
     Ok (record { sets = kinds.file.sets; types = kinds.types; fns = fs; main = main_of kinds.heads }))
 
--- What is told: a rule and its place, or the number of a limit.
-pub data Told : Type 0 where
-  broken : (rule at : ℕ) → Told
-  exceeded : (limit : ℕ) → Told
+-- Why a tree has no core program: a rule and its place, or the number of a limit.
+pub data Refused : Type 0 where
+  broken : (rule at : ℕ) → Refused
+  exceeded : (limit : ℕ) → Refused
 
-abbrev pub told_of : Refusal → Told
-told_of r =
+abbrev pub refused_of : Refusal → Refused
+refused_of r =
     if r.rule == TOO_MANY_VARIABLES then exceeded VARIABLES
     else if r.rule == TOO_MANY_KEYS then exceeded KEYS else broken r.rule r.at
 
-abbrev pub with_told : Result Program Refusal → Result Program Told
-with_told (Ok p) = Ok p
-with_told (Err r) = Err (told_of r)
+abbrev pub or_refused : Result Program Refusal → Result Program Refused
+or_refused (Ok p) = Ok p
+or_refused (Err r) = Err (refused_of r)
 
 -- The core program of a tree whose declarations are of these kinds, or the first refusal in the order of the text.
-abbrev pub elaborated : Tree → Kinds → Result Program Told
-elaborated t kinds = with_told (walk_tree t kinds)
+abbrev pub elaborated : Tree → Kinds → Result Program Refused
+elaborated t kinds = or_refused (walk_tree t kinds)

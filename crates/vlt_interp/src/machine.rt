@@ -2,6 +2,7 @@
 
 ghost use Rattle.std.specs.Prelude.{◌≡◌, ◌<◌, ◌≤◌, ◌↔◌, None, Some, IfOk, IfNone, IfSome};
 ghost use Rattle.vlt_base.specs.Limits.{limit_of};
+ghost use Rattle.vlt_base.specs.declared.limits.TheConstants as limits;
 ghost use Rattle.vlt_numbers.specs.HostAnswers.{lists_of};
 ghost use Rattle.vlt_core.specs.View.{program_of};
 ghost use Rattle.vlt_core.specs.Widths.{slots_needed};
@@ -45,7 +46,7 @@ impl<'a> Machine<'a> {
         ensures budgets { IfOk result (λ m. budgets_of m ≡ b) }
         ensures started { IfOk result (λ m. stop_of m ≡ None) }
         ensures too_wide { (result ≡ Err OpenError.TooWide) ↔
-            (limit_of 13 < slots_needed (program_of p.now) b.depth b.heap) }
+            (limit_of limits.VALUE_SLOTS < slots_needed (program_of p.now) b.depth b.heap) }
     {
         if is_too_wide(p, b.depth, b.heap) {
             return Err(OpenError::TooWide);

@@ -6,7 +6,7 @@ use Rattle.vlt_core.specs.Faults.{FlowFault, IsFirstFault}
 use Rattle.vlt_kinds_types.specs.declared.names.found.Refusal.{Refusal}
 use Rattle.vlt_kinds_types.specs.Kinds.{Kinds}
 use Rattle.vlt_kinds.specs.Tables.{kinds_told}
-use Rattle.vlt_elaboration.specs.Elaboration.{Told, broken, elaborated}
+use Rattle.vlt_elaboration.specs.Elaboration.{Refused, broken, elaborated}
 use Rattle.vlt_elaboration.specs.Programs.{with_kinds, program_told}
 use Rattle.vlt_verdict.specs.Verdicts.{refused, faulty, IsVerdictOf}
 
@@ -14,7 +14,7 @@ pub declarations_refused : (t : Tree) (r : Refusal) → kinds_told t ≡ Err r �
 declarations_refused t r e = ap (with_kinds t) e
 
 -- what comes of a tree whose declarations aren't refused
-pub told_of : (t : Tree) (kinds : Kinds) (x : Result Program Told) → kinds_told t ≡ Ok kinds → elaborated t kinds ≡ x →
+pub told_of : (t : Tree) (kinds : Kinds) (x : Result Program Refused) → kinds_told t ≡ Ok kinds → elaborated t kinds ≡ x →
     program_told t ≡ x
 told_of t kinds x e is = ap (with_kinds t) e ∙ is
 

@@ -6,7 +6,7 @@ use Rattle.std.specs.Cmp.Lexicographic.{pointwise}
 use Rattle.std.proofs.Math.Bool.{beq}
 use Rattle.vlt_core.specs.Core.{Ty, TypeDecl, an_abstract, a_struct, a_variant, FieldDecl, CaseDecl, Program}
 use Rattle.vlt_core.specs.Lookups.{is_owning, fields_in, cases_in}
-use Rattle.vlt_core.specs.Types.{is_fast, part_type, holds_fast, owning_parts}
+use Rattle.vlt_core.specs.Types.{is_undroppable_part, part_type, holds_undroppable, owning_parts}
 use Rattle.vlt_kinds_queries.specs.Marks.{Marks, is_marked, AreMarks}
 use Rattle.vlt_kinds_queries.specs.Rounds.{part_marked, decl_marked, marked_more, marks_after}
 
@@ -25,24 +25,24 @@ or_false false = refl
 -- of the owning parts, one test or the other
 any_of_both : (p : Program) (marks : Marks) (tys : List Ty)
     → list_any (part_marked p marks) tys
-    ≡ (list_any (is_fast p) (filter is_owning tys) || list_any (λ ty. is_marked marks (part_type ty)) (filter is_owning tys))
+    ≡ (list_any (is_undroppable_part p) (filter is_owning tys) || list_any (λ ty. is_marked marks (part_type ty)) (filter is_owning tys))
 any_of_both p marks [] = refl
 any_of_both p marks (ty ∷ tys) = by (is_owning ty) refl (any_of_both p marks tys)
   where
     by : (b : Bool) → is_owning ty ≡ b
         → list_any (part_marked p marks) tys
-        ≡ (list_any (is_fast p) (filter is_owning tys) || list_any (λ ty. is_marked marks (part_type ty)) (filter is_owning tys))
+        ≡ (list_any (is_undroppable_part p) (filter is_owning tys) || list_any (λ ty. is_marked marks (part_type ty)) (filter is_owning tys))
         → list_any (part_marked p marks) (ty ∷ tys)
-        ≡ (list_any (is_fast p) (filter is_owning (ty ∷ tys)) || list_any (λ ty. is_marked marks (part_type ty)) (filter is_owning (ty ∷ tys)))
+        ≡ (list_any (is_undroppable_part p) (filter is_owning (ty ∷ tys)) || list_any (λ ty. is_marked marks (part_type ty)) (filter is_owning (ty ∷ tys)))
     by true is more =
-        ap (λ b. (if b then is_fast p ty || is_marked marks (part_type ty) else false) || list_any (part_marked p marks) tys) is
-        ∙ ap (λ b. (is_fast p ty || is_marked marks (part_type ty)) || b) more
-        ∙ or_apart (is_fast p ty) (is_marked marks (part_type ty)) (list_any (is_fast p) (filter is_owning tys)) (list_any (λ ty. is_marked marks (part_type ty)) (filter is_owning tys))
-        ∙ sym (ap (λ b. list_any (is_fast p) (if b then ty ∷ filter is_owning tys else filter is_owning tys) || list_any (λ ty. is_marked marks (part_type ty)) (if b then ty ∷ filter is_owning tys else filter is_owning tys)) is)
+        ap (λ b. (if b then is_undroppable_part p ty || is_marked marks (part_type ty) else false) || list_any (part_marked p marks) tys) is
+        ∙ ap (λ b. (is_undroppable_part p ty || is_marked marks (part_type ty)) || b) more
+        ∙ or_apart (is_undroppable_part p ty) (is_marked marks (part_type ty)) (list_any (is_undroppable_part p) (filter is_owning tys)) (list_any (λ ty. is_marked marks (part_type ty)) (filter is_owning tys))
+        ∙ sym (ap (λ b. list_any (is_undroppable_part p) (if b then ty ∷ filter is_owning tys else filter is_owning tys) || list_any (λ ty. is_marked marks (part_type ty)) (if b then ty ∷ filter is_owning tys else filter is_owning tys)) is)
     by false is more =
-        ap (λ b. (if b then is_fast p ty || is_marked marks (part_type ty) else false) || list_any (part_marked p marks) tys) is
+        ap (λ b. (if b then is_undroppable_part p ty || is_marked marks (part_type ty) else false) || list_any (part_marked p marks) tys) is
         ∙ more
-        ∙ sym (ap (λ b. list_any (is_fast p) (if b then ty ∷ filter is_owning tys else filter is_owning tys) || list_any (λ ty. is_marked marks (part_type ty)) (if b then ty ∷ filter is_owning tys else filter is_owning tys)) is)
+        ∙ sym (ap (λ b. list_any (is_undroppable_part p) (if b then ty ∷ filter is_owning tys else filter is_owning tys) || list_any (λ ty. is_marked marks (part_type ty)) (if b then ty ∷ filter is_owning tys else filter is_owning tys)) is)
 
 any_of_types : (f : Ty → Bool) (fs : List FieldDecl) → list_any (λ d. f d.ty) fs ≡ list_any f (map (λ d. d.ty) fs ++ [])
 any_of_types f [] = refl
@@ -79,7 +79,7 @@ marked_at p marks (d ∷ ds) (suc t) = marked_at p marks ds t
 
 marked_type : (p : Program) (marks : Marks) (t : ℕ)
     → is_marked (marked_more p marks) t
-    ≡ (list_any (is_fast p) (owning_parts p t) || list_any (λ ty. is_marked marks (part_type ty)) (owning_parts p t))
+    ≡ (list_any (is_undroppable_part p) (owning_parts p t) || list_any (λ ty. is_marked marks (part_type ty)) (owning_parts p t))
 marked_type p marks t = marked_at p marks p.types t ∙ any_of_both p marks (parts_in (slice_get p.types t))
 
 no_marks : (tys : List Ty) → list_any (λ ty. is_marked [] (part_type ty)) tys ≡ false
@@ -88,13 +88,13 @@ no_marks (ty ∷ tys) = no_marks tys
 
 -- ---- rounds
 
-marks_are : (p : Program) (k t : ℕ) → is_marked (marks_after p (suc k)) t ≡ holds_fast p k t
+marks_are : (p : Program) (k t : ℕ) → is_marked (marks_after p (suc k)) t ≡ holds_undroppable p k t
 marks_are p zero t =
-    marked_type p [] t ∙ ap (λ b. list_any (is_fast p) (owning_parts p t) || b) (no_marks (owning_parts p t))
-    ∙ or_false (list_any (is_fast p) (owning_parts p t))
+    marked_type p [] t ∙ ap (λ b. list_any (is_undroppable_part p) (owning_parts p t) || b) (no_marks (owning_parts p t))
+    ∙ or_false (list_any (is_undroppable_part p) (owning_parts p t))
 marks_are p (suc k) t =
     marked_type p (marks_after p (suc k)) t
-    ∙ ap {A = ℕ → Bool} (λ f. list_any (is_fast p) (owning_parts p t) || list_any (λ ty. f (part_type ty)) (owning_parts p t)) (λ i u. marks_are p k u i)
+    ∙ ap {A = ℕ → Bool} (λ f. list_any (is_undroppable_part p) (owning_parts p t) || list_any (λ ty. f (part_type ty)) (owning_parts p t)) (λ i u. marks_are p k u i)
 
 -- a round that changes nothing is the last
 marks_stay : (p : Program) (k n : ℕ) → marks_after p (suc k) ≡ marks_after p k → marks_after p (n + k) ≡ marks_after p k

@@ -3,12 +3,12 @@ use Rattle.std.specs.Prelude.{ℕ, zero, suc, Bool, false, ◌||◌, if◌then�
 use Rattle.std.specs.List.{list_any}
 use Rattle.vlt_core.specs.Core.{Ty, TypeDecl, an_abstract, a_struct, a_variant, Program}
 use Rattle.vlt_core.specs.Lookups.{is_owning}
-use Rattle.vlt_core.specs.Types.{is_fast, part_type}
+use Rattle.vlt_core.specs.Types.{is_undroppable_part, part_type}
 use Rattle.vlt_kinds_queries.specs.Marks.{Marks, is_marked}
 
 -- the part is one that no release may reach, or its type is marked
 abbrev pub part_marked : Program → Marks → Ty → Bool
-part_marked p marks ty = if is_owning ty then is_fast p ty || is_marked marks (part_type ty) else false
+part_marked p marks ty = if is_owning ty then is_undroppable_part p ty || is_marked marks (part_type ty) else false
 
 abbrev pub decl_marked : Program → Marks → TypeDecl → Bool
 decl_marked p marks (an_abstract name set) = false

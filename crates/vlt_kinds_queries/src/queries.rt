@@ -190,8 +190,8 @@ impl Declared<'_> {
         self.sets[set.0 as usize].states.len() as u8
     }
 
-    fn is_fast(&self, ty: &Ty) -> bool
-        ensures { result ≡ t.is_fast (declared_seen self.now) (view.ty_of ty.now) }
+    fn is_undroppable_part(&self, ty: &Ty) -> bool
+        ensures { result ≡ t.is_undroppable_part (declared_seen self.now) (view.ty_of ty.now) }
     {
         match ty {
             Ty::Own(states, number, _) => {
@@ -205,7 +205,7 @@ impl Declared<'_> {
     fn is_part_marked(&self, marks: &[bool], ty: &Ty) -> bool
         ensures { result ≡ r.part_marked (declared_seen self.now) marks.now (view.ty_of ty.now) }
     {
-        is_owning(ty) && (self.is_fast(ty) || is_marked(marks, part_type(ty)))
+        is_owning(ty) && (self.is_undroppable_part(ty) || is_marked(marks, part_type(ty)))
     }
 
     fn is_field_marked(&self, marks: &[bool], fields: &[FieldDecl]) -> bool

@@ -13,7 +13,7 @@ use Rattle.vlt_kinds_decls.specs.Decls as decls
 use Rattle.vlt_kinds_heads.specs.Phase.{heads_refused_in, heads_refused}
 use Rattle.vlt_kinds.specs.Tables.{kinds_of, unless, heads_told, types_told, kinds_told}
 use Rattle.vlt_elaboration.specs.Walk.{then_do}
-use Rattle.vlt_elaboration.specs.Elaboration.{main_of, with_told}
+use Rattle.vlt_elaboration.specs.Elaboration.{main_of, or_refused}
 use Rattle.vlt_link_laws.specs.Moves.Joins.{Joins, befores, afters}
 use Rattle.vlt_link_laws.proofs.OfMoves.Empty.{none_of_both, not_broken, not_false}
 use Rattle.vlt_link_laws.proofs.Fits.{IsGiven, FitsIf, Fits}
@@ -78,6 +78,6 @@ views_link js ks covers fs gs i k first second main once =
     record {
       kinds = told (afters js) (named (afters js) (ap nam.no_main (sym same) ∙ has_main ks second.fits main) once p.named) (typed (afters js) p.typed) (headed (afters js) p.headed);
       program = program_of (afters js) p.fns (main_of (kinds_of (afters js)).heads);
-      is = ap (λ r. with_told (then_do r (λ fs. Ok (program_of (afters js) fs (main_of (kinds_of (afters js)).heads))))) p.walked;
+      is = ap (λ r. or_refused (then_do r (λ fs. Ok (program_of (afters js) fs (main_of (kinds_of (afters js)).heads))))) p.walked;
       accepted = p.accepted;
     }

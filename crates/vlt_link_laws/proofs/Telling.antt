@@ -7,7 +7,8 @@ use Rattle.vlt_core.specs.Core.{Func, Program}
 use Rattle.vlt_core.specs.KindedHeads.{Rules, set_broken, type_rows}
 use Rattle.vlt_core.specs.Kinded.{function_rows, parts_broken, first_broken, HasKindedParts}
 use Rattle.vlt_core.specs.declared.rules.TheConstants as rule
-use Rattle.vlt_core_laws.proofs.Unbroken.{EachEmpty, some_not_none, some_same, each_left, each_right, each_of_first}
+use Rattle.vlt_core_laws.proofs.Unbroken.{some_not_none, some_same, each_left, each_right, each_of_first}
+use Rattle.vlt_core_laws.specs.Unbroken.{EachEmpty}
 use Rattle.vlt_kinds_types.specs.declared.names.found.Refusal.{Refusal}
 use Rattle.vlt_kinds_types.specs.Names.Globals.{globals_of, names_again}
 use Rattle.vlt_kinds_decls.specs.Names as nam
@@ -17,7 +18,7 @@ use Rattle.vlt_kinds_decls.specs.Decls.{type_refused, types_refused}
 use Rattle.vlt_kinds_heads.specs.Phase.{heads_refused_in, heads_refused}
 use Rattle.vlt_kinds_types.specs.Kinds.{Kinds}
 use Rattle.vlt_kinds.specs.Tables.{kinds_of, unless}
-use Rattle.vlt_elaboration.specs.Elaboration.{walk_decls, main_of, walk_tree, Told, broken, told_of, with_told}
+use Rattle.vlt_elaboration.specs.Elaboration.{walk_decls, main_of, walk_tree, Refused, broken, refused_of, or_refused}
 use Rattle.vlt_syntax_copies.specs.Raised.{raised}
 use Rattle.vlt_iface.specs.declared.places.TheConstants.{RAISE}
 use Rattle.vlt_iface.specs.View.{View}
@@ -68,14 +69,14 @@ view_fine os ds kinds e =
 
 -- ---- programs
 
-told_ok : (r : Result Program Refusal) (p : Program) → with_told r ≡ Ok p → r ≡ Ok p
+told_ok : (r : Result Program Refusal) (p : Program) → or_refused r ≡ Ok p → r ≡ Ok p
 told_ok (Ok q) p e = ap Ok (same q p e)
   where
-    same : (q p : Program) → ◌≡◌ {A = Result Program Told} (Ok q) (Ok p) → q ≡ p
+    same : (q p : Program) → ◌≡◌ {A = Result Program Refused} (Ok q) (Ok p) → q ≡ p
     same q p e = cc
-told_ok (Err r) p e = absurd (not_ok (told_of r) e)
+told_ok (Err r) p e = absurd (not_ok (refused_of r) e)
   where
-    not_ok : (t : Told) → ◌≡◌ {A = Result Program Told} (Err t) (Ok p) → ⊥
+    not_ok : (t : Refused) → ◌≡◌ {A = Result Program Refused} (Err t) (Ok p) → ⊥
     not_ok t e = cc
 
 -- the functions of a view, and rule 1 where it is wanted
@@ -88,10 +89,10 @@ pub record ViewWalked (ds : List Decl) (with_main : Bool) (p : Program) : Type 0
 pub view_walked : (v : View) (with_main : Bool) (p : Program) → view_elaborated v (kinds_of v.tree.decls) with_main ≡ Ok p → ViewWalked v.tree.decls with_main p
 view_walked v with_main p e = by (lacks_main with_main v.tree.decls) refl e
   where
-    not_ok : (t : Told) → ◌≡◌ {A = Result Program Told} (Err t) (Ok p) → ⊥
+    not_ok : (t : Refused) → ◌≡◌ {A = Result Program Refused} (Err t) (Ok p) → ⊥
     not_ok t e = cc
 
-    by : (b : Bool) → lacks_main with_main v.tree.decls ≡ b → (if b then Err (broken rule.NO_MAIN RAISE) else with_told (walk_tree v.tree (kinds_of v.tree.decls))) ≡ Ok p → ViewWalked v.tree.decls with_main p
+    by : (b : Bool) → lacks_main with_main v.tree.decls ≡ b → (if b then Err (broken rule.NO_MAIN RAISE) else or_refused (walk_tree v.tree (kinds_of v.tree.decls))) ≡ Ok p → ViewWalked v.tree.decls with_main p
     by true lacks e = absurd (not_ok (broken rule.NO_MAIN RAISE) e)
     by false has e =
         let two = then_ok (walk_decls (kinds_of v.tree.decls) (kinds_of v.tree.decls).heads v.tree.decls) _ p (told_ok (walk_tree v.tree (kinds_of v.tree.decls)) p e) in

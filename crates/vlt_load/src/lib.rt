@@ -5,6 +5,7 @@
 
 ghost use Rattle.std.specs.Prelude.{◌≡◌, ◌≤◌, ◌+◌, ◌++◌, length, IfOk, OnOk, string_bytes};
 ghost use Rattle.vlt_base.specs.Limits.{limit_of};
+ghost use Rattle.vlt_base.specs.declared.limits.TheConstants as limits;
 ghost use Rattle.vlt_load.specs.Generated.{function_line, call_line, lines, generated_text};
 
 use std::alloc::{AllocError, Global};
@@ -74,7 +75,7 @@ fn write_program(text: &mut String, functions: u32) -> Result<(), AllocError>
 pub fn make(alloc: Global, functions: u32) -> Result<Vec<u8>, Memory>
     ensures text { IfOk result (λ text. text.items ≡ generated_text functions) }
     ensures within_limit { functions ≤ 4000 →
-        IfOk result (λ text. length text.items ≤ limit_of 1) }
+        IfOk result (λ text. length text.items ≤ limit_of limits.SOURCE_BYTES) }
 {
     let mut text = String::new(alloc);
     write_program(&mut text, functions)?;

@@ -1,6 +1,7 @@
 //! Expressions, by precedence climbing, and fields with their values.
 
 ghost use Rattle.std.specs.Prelude.{◌≡◌, ◌≢◌, ◌∷◌, [], ◌+◌, ◌<◌, ◌≤◌, ℕ, suc, List, IfOk, IfErr, IfSome, IfNone, Some};
+ghost use Rattle.vlt_base.specs.declared.limits.TheConstants as limits;
 ghost use Rattle.vlt_ops.specs.Operator.{row_of};
 ghost use Rattle.vlt_tokens.specs.declared.token.Mark.TheVariants.{OpenParen};
 ghost use Rattle.vlt_syntax.specs.Tokens.{sign as a_sign};
@@ -38,7 +39,7 @@ const LEAST: u8 = 2;
 fn deeper(depth: usize, room: usize) -> Result<usize, ParseError>
     ensures room { IfOk result (λ inside. room ≡ suc inside) }
     ensures fits { IfOk result (λ inside. depth ≤ inside) }
-    ensures full { IfErr result (λ e. (room ≤ depth) × (e ≡ Limit 12)) }
+    ensures full { IfErr result (λ e. (room ≤ depth) × (e ≡ Limit limits.DEPTH)) }
 {
     if depth >= room {
         return Err(ParseError::Limit(DEPTH));

@@ -1,6 +1,7 @@
 //! Statements with blocks. `room` is how many more blocks may stand in one another where a part stands.
 
 ghost use Rattle.std.specs.Prelude.{◌≡◌, ◌∷◌, [], ◌-◌, ◌≤◌, None, length, map, IfOk, IfErr, OnOk};
+ghost use Rattle.vlt_base.specs.declared.limits.TheConstants as limits;
 ghost use Rattle.vlt_tokens.specs.declared.token.TokenKind.TheVariants as kinds;
 ghost use Rattle.vlt_tokens.specs.declared.token.Word.TheVariants as words;
 ghost use Rattle.vlt_tokens.specs.declared.token.Mark.TheVariants.{OpenParen, CloseParen, OpenBrace, CloseBrace, Colon};
@@ -27,7 +28,7 @@ use vlt_tokens::{Mark, Token, TokenKind, Word};
 /// Whether one more block may stand here.
 fn enter(room: usize) -> Result<(), ParseError>
     ensures some { OnOk result (1 ≤ room) }
-    ensures full { IfErr result (λ e. (room ≡ 0) × (e ≡ Limit 12)) }
+    ensures full { IfErr result (λ e. (room ≡ 0) × (e ≡ Limit limits.DEPTH)) }
 {
     if room == 0 {
         return Err(ParseError::Limit(DEPTH));

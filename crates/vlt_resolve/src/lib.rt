@@ -7,7 +7,7 @@ ghost use Rattle.std.specs.Prelude.{◌≡◌, Some, Ok, Err, IfOk};
 ghost use Rattle.vlt_syntax.specs.View.{tree_of};
 ghost use Rattle.vlt_core.specs.View.{program_of};
 ghost use Rattle.vlt_kinds_types.specs.Seen.{kinds_seen};
-ghost use Rattle.vlt_elaboration.specs.Elaboration.{elaborated, told_of, walk_tree};
+ghost use Rattle.vlt_elaboration.specs.Elaboration.{elaborated, refused_of, walk_tree};
 ghost use Rattle.vlt_resolve.specs.Refusals.{OnTold, error_seen};
 ghost use Rattle.vlt_resolve_parts.specs.Refusals.{OnRefused};
 
@@ -45,7 +45,7 @@ fn program(alloc: Global, tree: &Tree, kinds: &Kinds<'_>) -> Result<Program, Sto
 }
 
 fn error_of(refusal: Refusal) -> ElabError
-    ensures { error_seen result ≡ Some (told_of refusal) }
+    ensures { error_seen result ≡ Some (refused_of refusal) }
 {
     match refusal.rule {
         TOO_MANY_VARIABLES => ElabError::Limit(VARIABLES),

@@ -24,7 +24,7 @@ use Rattle.vlt_resolve_laws.proofs.OfKindsLaws.Empty.{no_left, no_right, not_bro
 use Rattle.vlt_resolve_exprs.specs.declared.limits.TheConstants.{TOO_MANY_VARIABLES, TOO_MANY_KEYS}
 use Rattle.vlt_elaboration.specs.Walk.{then_do, walk_stmts}
 use Rattle.vlt_elaboration.specs.Elaboration as elab
-use Rattle.vlt_elaboration.specs.Elaboration.{body_scope, body_around, stmts_in, end_refused, func_made, walk_body, is_function, walk_function, walk_decls, walk_tree, main_of, Told, with_told}
+use Rattle.vlt_elaboration.specs.Elaboration.{body_scope, body_around, stmts_in, end_refused, func_made, walk_body, is_function, walk_function, walk_decls, walk_tree, main_of, Refused, or_refused}
 use Rattle.vlt_resolve_laws.proofs.Results.{same_ok, then_ok, unless_ok, least_none}
 use Rattle.vlt_resolve_laws.specs.Made.{head_made, HasWalked, IsMade, AreMade}
 
@@ -151,14 +151,14 @@ module _ (kinds : Kinds) where
 
 -- ---- the program
 
-pub told_ok : (r : Result Program Refusal) (p : Program) → with_told r ≡ Ok p → r ≡ Ok p
+pub told_ok : (r : Result Program Refusal) (p : Program) → or_refused r ≡ Ok p → r ≡ Ok p
 told_ok (Ok q) p e = ap Ok (same q p e)
   where
-    same : (a b : Program) → ◌≡◌ {A = Result Program Told} (Ok a) (Ok b) → a ≡ b
+    same : (a b : Program) → ◌≡◌ {A = Result Program Refused} (Ok a) (Ok b) → a ≡ b
     same a b e = cc
-told_ok (Err r) p e = absurd (refused (elab.told_of r) p e)
+told_ok (Err r) p e = absurd (refused (elab.refused_of r) p e)
   where
-    refused : (t : Told) (p : Program) → ◌≡◌ {A = Result Program Told} (Err t) (Ok p) → ⊥
+    refused : (t : Refused) (p : Program) → ◌≡◌ {A = Result Program Refused} (Err t) (Ok p) → ⊥
     refused t p e = cc
 
 pub record HasFunctions (kinds : Kinds) (p : Program) : Type 0 where

@@ -11,7 +11,8 @@ use Rattle.vlt_core.specs.KindedStatements.{opened_broken, simple_broken}
 use Rattle.vlt_core.specs.KindedCalls.{is_fresh_call, keys_fit, result_broken_by, call_target_broken, target_alone_broken, call_broken}
 use Rattle.vlt_core.specs.KindedBodies.{in_loop, in_focus, with_focus, with_vars, ends, ids_following, ids_following_block, switch_broken, arm_vars_broken, arm_broken, focus_broken, list_broken, owning_toks, arms_broken, row_broken, form_rows, block_rows, stmts_rows, arms_rows}
 use Rattle.vlt_core.specs.declared.rules.TheConstants as rule
-use Rattle.vlt_core_laws.proofs.Unbroken.{EachEmpty, left_empty, right_empty, unless_holds, filled_not_empty, each_left, each_right}
+use Rattle.vlt_core_laws.proofs.Unbroken.{left_empty, right_empty, unless_holds, filled_not_empty, each_left, each_right}
+use Rattle.vlt_core_laws.specs.Unbroken.{EachEmpty}
 use Rattle.vlt_core_laws.proofs.Binding.{in_range}
 use Rattle.vlt_core_laws.proofs.Headed.{each_at}
 use Rattle.vlt_interp.specs.Tasks.Own.{IsVar, AreVars, IsOwnSimple, IsOwnCall, IsOwn, IsOwnBlock, AreOwn, AreOwnArms}

@@ -7,7 +7,8 @@ use Rattle.vlt_core.specs.Kinded.{IsKinded}
 use Rattle.vlt_core.specs.KindedHeads.{head_broken}
 use Rattle.vlt_core.specs.KindedCalls.{keys_fit}
 use Rattle.vlt_core.specs.KindedBodies.{first_ids, stmts_rows, end_broken}
-use Rattle.vlt_core_laws.proofs.Unbroken.{EachEmpty, left_empty}
+use Rattle.vlt_core_laws.proofs.Unbroken.{left_empty}
+use Rattle.vlt_core_laws.specs.Unbroken.{EachEmpty}
 use Rattle.vlt_core_laws.proofs.Headed.{kinded_parts, function_empty, head_empty, params_fit}
 use Rattle.vlt_interp.specs.Tasks.Own.{AreOwn, HasOwn}
 use Rattle.vlt_run_laws.specs.Blank.{HasBlankExternals, HasFewVars}

@@ -12,7 +12,7 @@ use Rattle.vlt_core.specs.KindedHeads.{Rules, unless, is_bound_entry, names_stat
 use Rattle.vlt_core.specs.declared.rules.TheConstants as rule
 use Rattle.vlt_core_laws.proofs.Starting.{bound_is}
 use Rattle.vlt_sound_worlds.proofs.Empty.{both_empty, unless_so}
-use Rattle.vlt_sound_calls.specs.Callee.{Among}
+use Rattle.vlt_sound_calls.specs.Among.{Among}
 use Rattle.vlt_sound_calls.specs.Bounds.{HasBound}
 use Rattle.vlt_sound_calls.proofs.Statics.{among_at}
 use Rattle.vlt_sound.proofs.Rows.{flat_at}

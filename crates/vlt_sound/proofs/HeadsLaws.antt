@@ -13,7 +13,7 @@ use Rattle.vlt_core.specs.Kinded.{IsKinded}
 use Rattle.vlt_sound_worlds.specs.Members.{In}
 use Rattle.vlt_sound_worlds.specs.Fits.{header_type}
 use Rattle.vlt_sound_worlds.proofs.Empty.{both_empty, both_so, unless_so}
-use Rattle.vlt_sound_calls.specs.Callee.{Among}
+use Rattle.vlt_sound_calls.specs.Among.{Among}
 use Rattle.vlt_sound.proofs.Rows.{flat_at, zero_plus, has_in, in_has}
 use Rattle.vlt_sound.proofs.Decls.{PartKinded, part_keys, payload_kinded}
 use Rattle.vlt_sound.proofs.Vars.{HeadKinded, head_kinded, result_kinded, key_within, own_type, Gives, listed_agrees, only_given, new_in, listed_row, key_typed, guard_off}

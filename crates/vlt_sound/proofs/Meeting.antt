@@ -22,7 +22,7 @@ use Rattle.vlt_sound_worlds.proofs.Touch.{Used, used}
 use Rattle.vlt_sound_worlds.proofs.Expressions.{field_at, not_owning}
 use Rattle.vlt_sound_worlds.proofs.TypeFacts.{move_facts, pack_facts, packed_tracked, misfit_plain}
 use Rattle.vlt_sound_calls.specs.Heads.{HasHead}
-use Rattle.vlt_sound_calls.specs.Callee.{Among}
+use Rattle.vlt_sound_calls.specs.Among.{Among}
 use Rattle.vlt_sound_calls.specs.Meet.{KeysMeet}
 use Rattle.vlt_sound.specs.Fields.{HasFields}
 

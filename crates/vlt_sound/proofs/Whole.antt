@@ -20,12 +20,13 @@ use Rattle.vlt_meaning.specs.Clean.{IsClean}
 use Rattle.vlt_meaning_laws.proofs.Done.{done_is_clean}
 use Rattle.vlt_meaning.specs.Run.{Setup, first_frame, start, ran, ran_of, main_run}
 use Rattle.vlt_core_laws.specs.States.{HasStates}
-use Rattle.vlt_core_laws.proofs.Unbroken.{EachEmpty, each_left, each_right, each_of_first, left_empty, right_empty, unless_holds}
+use Rattle.vlt_core_laws.proofs.Unbroken.{each_left, each_right, each_of_first, left_empty, right_empty, unless_holds}
+use Rattle.vlt_core_laws.specs.Unbroken.{EachEmpty}
 use Rattle.vlt_sound_worlds.specs.Agrees.{Agrees}
 use Rattle.vlt_sound_worlds.specs.Safe.{Safe}
 use Rattle.vlt_sound_calls.specs.Returned.{returns_to}
 use Rattle.vlt_sound.specs.Sizes.{HasSizes}
-use Rattle.vlt_sound_calls.specs.Callee.{Among}
+use Rattle.vlt_sound_calls.specs.Among.{Among}
 use Rattle.vlt_sound.specs.Narrow.{HasNarrowHeads}
 use Rattle.vlt_sound.specs.Promise.{NeverGoesWrong, LeavesOnlyItsClause}
 use Rattle.vlt_sound.specs.Main.{IsMain}

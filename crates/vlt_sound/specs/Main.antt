@@ -2,7 +2,7 @@
 use Rattle.std.specs.Prelude.{◌≡◌, ◌⊎◌, ℕ, false, List, None, Some}
 use Rattle.vlt_core.specs.Core.{tracked, Entry, Func}
 use Rattle.vlt_core.specs.Lookups.{is_held_before}
-use Rattle.vlt_sound_calls.specs.Callee.{Among}
+use Rattle.vlt_sound_calls.specs.Among.{Among}
 
 -- no parameter, no key before, and either nothing comes back or a reference
 pub record IsMain (f : Func) : Type 0 where

@@ -12,7 +12,8 @@ use Rattle.vlt_meaning.specs.World.{Frame, missing, no_value}
 use Rattle.vlt_meaning.specs.Found.{◌>>=◌, or_fault}
 use Rattle.vlt_meaning.specs.Externals.{is_given, keys_in_cases, awaited_keys, named_objects}
 use Rattle.vlt_sound_worlds.proofs.Starting.{has_in}
-use Rattle.vlt_sound_calls.specs.Callee.{Among, IsParamKey, IsCall}
+use Rattle.vlt_sound_calls.specs.Callee.{IsParamKey, IsCall}
+use Rattle.vlt_sound_calls.specs.Among.{Among}
 use Rattle.vlt_sound_calls.specs.ReturnHeads.{IsHostKey, IsHostCase, HasHostHead}
 use Rattle.vlt_sound_calls.specs.HostAnswers.{AreNamed}
 use Rattle.vlt_sound_calls.proofs.News.{in_has, own_in}

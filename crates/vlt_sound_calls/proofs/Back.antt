@@ -32,7 +32,8 @@ use Rattle.vlt_sound_worlds.specs.Scoped.{IsKeyInScope, IsScoped}
 use Rattle.vlt_sound_calls.specs.Returned.{is_lasting, IsEntered, IsKept, FitsResult, Returned}
 use Rattle.vlt_sound_calls.specs.Heads.{HasHead}
 use Rattle.vlt_sound_calls.proofs.Contexts.{kept_held}
-use Rattle.vlt_sound_calls.specs.Callee.{Among, AreApartBy, caller_key, IsParamKey, IsCall, without, with_waiting, callee_context}
+use Rattle.vlt_sound_calls.specs.Callee.{AreApartBy, caller_key, IsParamKey, IsCall, without, with_waiting, callee_context}
+use Rattle.vlt_sound_calls.specs.Among.{Among}
 use Rattle.vlt_sound_calls.proofs.Entries.{same_entry, Sought, sought}
 use Rattle.vlt_sound_calls.proofs.ClauseRows.{AreThere, clause_wanted, clause_here, clause_other, without_here, without_other}
 use Rattle.vlt_sound_calls.proofs.Rekeyed.{Rekeyed, rekeyed_grows, rekeyed_states, rekeyed_objects, rekeyed_adopted, rekeyed_placed, rekeyed_ranked, rekeyed_foci}

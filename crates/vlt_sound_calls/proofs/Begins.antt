@@ -21,7 +21,8 @@ use Rattle.vlt_sound_worlds.specs.Agrees.{Handed, Context, Agrees}
 use Rattle.vlt_sound_worlds.specs.Typed.{IsLimited}
 use Rattle.vlt_sound_worlds.proofs.Touch.{held_is}
 use Rattle.vlt_sound_worlds.proofs.Leaving.{key_same}
-use Rattle.vlt_sound_calls.specs.Callee.{Among, AreApartBy, caller_key, IsParamKey, IsCall, without}
+use Rattle.vlt_sound_calls.specs.Callee.{AreApartBy, caller_key, IsParamKey, IsCall, without}
+use Rattle.vlt_sound_calls.specs.Among.{Among}
 use Rattle.vlt_sound_calls.proofs.Entries.{same_entry, Sought, sought}
 use Rattle.vlt_sound_calls.proofs.ClauseRows.{clause_wanted, without_here, without_other}
 use Rattle.vlt_sound_calls.proofs.Over.{Holds, HoldsAll, Over, Stays, handed}

@@ -8,7 +8,8 @@ use Rattle.vlt_core.specs.Rows.{on_option, entry_row, entry_wanted, entry_after,
 use Rattle.vlt_sound_worlds.proofs.Empty.{both_so}
 use Rattle.vlt_sound_worlds.proofs.Rows.{row_here, row_other, tok_is}
 use Rattle.vlt_sound_worlds.proofs.Leaving.{key_same}
-use Rattle.vlt_sound_calls.specs.Callee.{Among, AreApartBy, caller_key, without}
+use Rattle.vlt_sound_calls.specs.Callee.{AreApartBy, caller_key, without}
+use Rattle.vlt_sound_calls.specs.Among.{Among}
 
 -- each entry's key has one of the caller
 abbrev pub AreThere : List ℕ → List Entry → Type 0

@@ -2,7 +2,8 @@
 use Rattle.std.proofs.Common.{◌≡◌, ◌⊎◌, inl, inr, ⊎_elim, ℕ, Bool, true, false, List, [], ◌∷◌, refl, sym, ap, ◌∙◌}
 use Rattle.std.proofs.lemmas.Bool.{cases_eq, cases_Bool}
 use Rattle.vlt_core.specs.Core.{Entry}
-use Rattle.vlt_sound_calls.specs.Callee.{Among, AreApartBy}
+use Rattle.vlt_sound_calls.specs.Callee.{AreApartBy}
+use Rattle.vlt_sound_calls.specs.Among.{Among}
 
 pub same_entry : (at : Entry → ℕ) (es : List Entry) → AreApartBy at es → (d e : Entry) → Among d es → Among e es →
     at d ≡ at e → d ≡ e

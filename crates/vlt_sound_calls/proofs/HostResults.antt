@@ -27,7 +27,8 @@ use Rattle.vlt_sound_worlds.proofs.FrameChanges.{agrees_map}
 use Rattle.vlt_sound_worlds.specs.Scoped.{IsKeyInScope, IsScoped}
 use Rattle.vlt_sound_calls.specs.Returned.{IsEntered}
 use Rattle.vlt_sound_calls.specs.Heads.{HasHead}
-use Rattle.vlt_sound_calls.specs.Callee.{Among, caller_key, IsCall}
+use Rattle.vlt_sound_calls.specs.Callee.{caller_key, IsCall}
+use Rattle.vlt_sound_calls.specs.Among.{Among}
 use Rattle.vlt_sound_calls.proofs.Entries.{same_entry}
 use Rattle.vlt_sound_calls.proofs.Typing.{keys_typed}
 use Rattle.vlt_sound_calls.specs.Fresh.{IsFreshCall}

@@ -12,7 +12,7 @@ use Rattle.vlt_core_laws.proofs.Instanced.{new_keys_same, clause_keys_same, head
 use Rattle.vlt_sound_worlds.specs.Typed.{IsTyped}
 use Rattle.vlt_sound_calls.specs.Heads.{IsNewKey, HasHead}
 use Rattle.vlt_sound_calls.specs.Meet.{KeysMeet}
-use Rattle.vlt_sound_calls.specs.Callee.{Among}
+use Rattle.vlt_sound_calls.specs.Among.{Among}
 use Rattle.vlt_sound_calls.specs.ReturnHeads.{IsHostKey, IsHostCase, HasHostHead}
 
 -- ---- entries

@@ -34,7 +34,8 @@ use Rattle.vlt_sound_worlds.proofs.Leaving.{var_is_no_key, key_same}
 use Rattle.vlt_sound_worlds.proofs.Starting.{has_right}
 use Rattle.vlt_sound_calls.specs.Returned.{IsEntered, AreKept, FitsResult, returns_to}
 use Rattle.vlt_sound_calls.specs.Heads.{HasHead}
-use Rattle.vlt_sound_calls.specs.Callee.{Among, AreApartBy}
+use Rattle.vlt_sound_calls.specs.Callee.{AreApartBy}
+use Rattle.vlt_sound_calls.specs.Among.{Among}
 use Rattle.vlt_sound_calls.proofs.Entries.{same_entry, sought}
 use Rattle.vlt_sound_calls.proofs.Pairs.{among_filtered, filtered_among, filtered_apart}
 use Rattle.vlt_sound_calls.proofs.ResultsLaws.{new_is_after}

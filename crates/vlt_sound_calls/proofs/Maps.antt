@@ -11,7 +11,8 @@ use Rattle.vlt_sound_worlds.proofs.Rows.{row_here, row_other}
 use Rattle.vlt_sound_worlds.proofs.Touch.{held_is}
 use Rattle.vlt_sound_worlds.proofs.FrameOwners.{ChangesTok}
 use Rattle.vlt_sound_worlds.proofs.Leaving.{key_same, var_is_no_key}
-use Rattle.vlt_sound_calls.specs.Callee.{Among, AreApartBy, caller_key}
+use Rattle.vlt_sound_calls.specs.Callee.{AreApartBy, caller_key}
+use Rattle.vlt_sound_calls.specs.Among.{Among}
 use Rattle.vlt_sound_calls.proofs.Entries.{same_entry, sought}
 use Rattle.vlt_sound_calls.proofs.ClauseRows.{AreThere, clause_wanted, clause_here, clause_other}
 use Rattle.vlt_sound_calls.proofs.Pairs.{among_filtered, filtered_among, filtered_apart}

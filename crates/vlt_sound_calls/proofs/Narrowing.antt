@@ -20,7 +20,8 @@ use Rattle.vlt_sound_worlds.specs.Agrees.{Handed, Context, Agrees}
 use Rattle.vlt_sound_worlds.proofs.Rows.{row_other, tok_is, tok_itself}
 use Rattle.vlt_sound_worlds.proofs.Touch.{held_is}
 use Rattle.vlt_sound_worlds.proofs.Leaving.{key_same}
-use Rattle.vlt_sound_calls.specs.Callee.{Among, AreApartBy, caller_key, IsCall}
+use Rattle.vlt_sound_calls.specs.Callee.{AreApartBy, caller_key, IsCall}
+use Rattle.vlt_sound_calls.specs.Among.{Among}
 use Rattle.vlt_sound_calls.specs.Bounds.{HasBound}
 use Rattle.vlt_sound_calls.proofs.ClauseRows.{AreThere}
 

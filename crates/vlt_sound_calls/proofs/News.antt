@@ -12,7 +12,8 @@ use Rattle.vlt_meaning.specs.Externals.{new_key}
 use Rattle.vlt_sound_worlds.specs.Members.{In}
 use Rattle.vlt_sound_worlds.proofs.Members.{in_right}
 use Rattle.vlt_sound_worlds.proofs.Binding.{first_or_other}
-use Rattle.vlt_sound_calls.specs.Callee.{Among, caller_key}
+use Rattle.vlt_sound_calls.specs.Callee.{caller_key}
+use Rattle.vlt_sound_calls.specs.Among.{Among}
 use Rattle.vlt_sound_calls.proofs.ClauseRows.{AreThere}
 use Rattle.vlt_sound_worlds.specs.Said.{GoTogether, IsAfter}
 

@@ -15,7 +15,8 @@ use Rattle.vlt_sound_worlds.specs.Look.{look, ChangesOne}
 use Rattle.vlt_sound_worlds.proofs.Look.{look_at, changes_one}
 use Rattle.vlt_sound_worlds.proofs.Touch.{named, held_found}
 use Rattle.vlt_sound_worlds.proofs.Leaving.{length_changed}
-use Rattle.vlt_sound_calls.specs.Callee.{Among, caller_key}
+use Rattle.vlt_sound_calls.specs.Callee.{caller_key}
+use Rattle.vlt_sound_calls.specs.Among.{Among}
 use Rattle.vlt_sound_calls.proofs.Rekeyed.{Rekeyed}
 
 module _ (keys : List ℕ) (frame : Frame) (os : List Object) where

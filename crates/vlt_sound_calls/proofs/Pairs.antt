@@ -15,7 +15,8 @@ use Rattle.vlt_sound_worlds.specs.Fits.{Names}
 use Rattle.vlt_sound_worlds.proofs.FrameChanges.{set_here, set_other}
 use Rattle.vlt_sound_worlds.proofs.Leaving.{length_changed}
 use Rattle.vlt_sound_calls.specs.Returned.{IsKept, AreKept}
-use Rattle.vlt_sound_calls.specs.Callee.{Among, AreApartBy, caller_key}
+use Rattle.vlt_sound_calls.specs.Callee.{AreApartBy, caller_key}
+use Rattle.vlt_sound_calls.specs.Among.{Among}
 use Rattle.vlt_sound_calls.proofs.ClauseRows.{AreThere}
 
 -- an entry and a number at the same position

@@ -15,7 +15,7 @@ use Rattle.vlt_sound_worlds.specs.Members.{In}
 use Rattle.vlt_sound_worlds.specs.Agrees.{InScope}
 use Rattle.vlt_sound_worlds.proofs.Empty.{both_so}
 use Rattle.vlt_sound_worlds.proofs.Binding.{first_or_other}
-use Rattle.vlt_sound_calls.specs.Callee.{Among}
+use Rattle.vlt_sound_calls.specs.Among.{Among}
 
 -- a type with other keys owns where it does
 pub owning_with : (keys : List ℕ) (ty : Ty) → is_owning (with_keys keys ty) ≡ is_owning ty

@@ -44,7 +44,7 @@ use Rattle.vlt_sound_worlds.proofs.OperandsLaws.{operand_safe}
 use Rattle.vlt_sound_calls.specs.Returned.{IsEntered, FitsResult, returns_to}
 use Rattle.vlt_sound_calls.specs.Heads.{IsNewKey, HasHead}
 use Rattle.vlt_sound_calls.specs.Calls.{ReturnsAreSafe}
-use Rattle.vlt_sound_calls.specs.Callee.{Among}
+use Rattle.vlt_sound_calls.specs.Among.{Among}
 use Rattle.vlt_sound_calls.proofs.Pairs.{among_filtered, filtered_among}
 use Rattle.vlt_sound_calls.proofs.ResultsLaws.{NewEntry, new_entry}
 use Rattle.vlt_sound_calls.proofs.Statics.{among_at, any_new}

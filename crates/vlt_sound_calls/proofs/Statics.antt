@@ -26,7 +26,8 @@ use Rattle.vlt_sound_worlds.proofs.Binding.{first_or_other, binding_kept}
 use Rattle.vlt_sound_worlds.proofs.Fresh.{is_fresh as key_is_fresh}
 use Rattle.vlt_sound_calls.specs.Heads.{IsNewKey, HasHead}
 use Rattle.vlt_sound_calls.proofs.CallRules.{IsUnbrokenCall, unbroken_call}
-use Rattle.vlt_sound_calls.specs.Callee.{Among, AreApartBy, caller_key, IsParamKey, IsCall}
+use Rattle.vlt_sound_calls.specs.Callee.{AreApartBy, caller_key, IsParamKey, IsCall}
+use Rattle.vlt_sound_calls.specs.Among.{Among}
 use Rattle.vlt_sound_calls.proofs.Parameters.{in_range}
 use Rattle.vlt_sound_calls.specs.Fresh.{IsFreshCall}
 use Rattle.vlt_sound_calls.proofs.ResultsLaws.{result_same, caller_type_is, new_entry}

@@ -18,7 +18,8 @@ use Rattle.vlt_sound_worlds.proofs.Members.{in_either, in_left, in_right, once_b
 use Rattle.vlt_sound_worlds.proofs.Rows.{row_here}
 use Rattle.vlt_sound_worlds.proofs.Leaving.{key_same}
 use Rattle.vlt_sound_worlds.specs.Moved.{ArePassing}
-use Rattle.vlt_sound_calls.specs.Callee.{Among, AreApartBy, caller_key}
+use Rattle.vlt_sound_calls.specs.Callee.{AreApartBy, caller_key}
+use Rattle.vlt_sound_calls.specs.Among.{Among}
 use Rattle.vlt_sound_calls.proofs.Over.{Holds, HoldsAll, holds_object}
 use Rattle.vlt_sound_calls.proofs.Taking.{take_rows, take_other}
 

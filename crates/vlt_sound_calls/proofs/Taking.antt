@@ -12,7 +12,8 @@ use Rattle.vlt_meaning.specs.World.{Object}
 use Rattle.vlt_sound_worlds.proofs.Rows.{row_other}
 use Rattle.vlt_sound_worlds.proofs.Leaving.{key_same}
 use Rattle.vlt_sound_worlds.proofs.Binding.{first_or_other}
-use Rattle.vlt_sound_calls.specs.Callee.{Among, AreApartBy}
+use Rattle.vlt_sound_calls.specs.Callee.{AreApartBy}
+use Rattle.vlt_sound_calls.specs.Among.{Among}
 use Rattle.vlt_sound_calls.proofs.Parameters.{in_range}
 
 -- ---- rows that take

@@ -3,7 +3,7 @@ use Rattle.std.specs.Prelude.{◌≡◌, ℕ, Some}
 use Rattle.vlt_core.specs.Core.{up_to, Entry, Func}
 use Rattle.vlt_core.specs.Lookups.{key_type}
 use Rattle.vlt_core.specs.Instances.{bound_in}
-use Rattle.vlt_sound_calls.specs.Callee.{Among}
+use Rattle.vlt_sound_calls.specs.Among.{Among}
 
 -- it is the only one, and its key has a type
 pub record HasBound (g : Func) : Type 0 where

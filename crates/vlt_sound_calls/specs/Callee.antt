@@ -1,5 +1,5 @@
 -- What is known of a call without a run, and the context that a callee begins in.
-use Rattle.std.specs.Prelude.{◌≡◌, ◌⊎◌, ℕ, suc, ◌==◌, true, false, ◌&&◌, if◌then◌else◌, List, [], ◌∷◌, length, nat_lt, None, Some, slice_get}
+use Rattle.std.specs.Prelude.{◌≡◌, ℕ, suc, ◌==◌, true, false, ◌&&◌, if◌then◌else◌, List, [], ◌∷◌, length, nat_lt, None, Some, slice_get}
 use Rattle.vlt_core.specs.Core.{a_key, Entry, Func, Program}
 use Rattle.vlt_core.specs.Lookups.{key_type, is_held_before}
 use Rattle.vlt_core.specs.Types.{stands_for}
@@ -10,11 +10,8 @@ use Rattle.vlt_meaning.specs.World.{Frame}
 use Rattle.vlt_meaning.specs.Calls.{is_new_key, callee_key}
 use Rattle.vlt_sound_worlds.specs.Agrees.{Waiting, Context}
 use Rattle.vlt_sound_worlds.specs.Scoped.{IsKeyInScope}
+use Rattle.vlt_sound_calls.specs.Among.{Among}
 use Rattle.vlt_sound_calls.specs.Returned.{is_lasting}
-
-abbrev pub Among : {A : Type 0} → A → List A → Type 0
-Among a [] = ⊥
-Among a (x ∷ xs) = (a ≡ x) ⊎ Among a xs
 
 -- no two entries of the list have the same number
 abbrev pub AreApartBy : (Entry → ℕ) → List Entry → Type 0

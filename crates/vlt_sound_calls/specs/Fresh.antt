@@ -5,7 +5,8 @@ use Rattle.vlt_core.specs.Lookups.{key_type, is_held_after, is_new}
 use Rattle.vlt_core.specs.KindedScopes.{Ids}
 use Rattle.vlt_sound_worlds.specs.Agrees.{Context}
 use Rattle.vlt_sound_worlds.specs.Scopes.{IsFresh}
-use Rattle.vlt_sound_calls.specs.Callee.{Among, caller_key, IsParamKey}
+use Rattle.vlt_sound_calls.specs.Callee.{caller_key, IsParamKey}
+use Rattle.vlt_sound_calls.specs.Among.{Among}
 
 -- The caller's key for a `new` one is new, and has the type of the result's object. Each other entry is of a key of the
 -- parameters.

@@ -6,7 +6,8 @@ use Rattle.vlt_core.specs.Rows.{row}
 use Rattle.vlt_core.specs.KindedScopes.{Ids}
 use Rattle.vlt_meaning.specs.Externals.{is_given}
 use Rattle.vlt_sound_worlds.specs.Scoped.{IsKeyInScope}
-use Rattle.vlt_sound_calls.specs.Callee.{Among, AreApartBy, caller_key}
+use Rattle.vlt_sound_calls.specs.Callee.{AreApartBy, caller_key}
+use Rattle.vlt_sound_calls.specs.Among.{Among}
 
 abbrev pub whatever : States
 whatever s = true

@@ -1,6 +1,7 @@
 pub mod Returned
 pub mod Heads
 pub mod Calls
+pub mod Among
 pub mod Callee
 pub mod Bounds
 pub mod Ready

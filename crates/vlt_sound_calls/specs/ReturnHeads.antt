@@ -6,7 +6,7 @@ use Rattle.vlt_core.specs.Types.{keys_of_ty}
 use Rattle.vlt_core.specs.KindedHeads.{has, new_keys, tracked_keys}
 use Rattle.vlt_sound_worlds.specs.Members.{In}
 use Rattle.vlt_sound_worlds.specs.Fits.{header_type}
-use Rattle.vlt_sound_calls.specs.Callee.{Among}
+use Rattle.vlt_sound_calls.specs.Among.{Among}
 
 -- a type that has no fields, and states of it
 pub record IsHostType (p : Program) (allowed : States) (type : ℕ) : Type 0 where

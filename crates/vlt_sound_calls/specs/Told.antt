@@ -5,7 +5,8 @@ use Rattle.vlt_core.specs.Lookups.{key_type, all_states, is_new, states_or_all, 
 use Rattle.vlt_core.specs.Maps as maps
 use Rattle.vlt_core.specs.Maps.{HeldMap, wants_held, becomes_held, Row, row_passed}
 use Rattle.vlt_core.specs.Rows.{row}
-use Rattle.vlt_sound_calls.specs.Callee.{Among, AreApartBy, caller_key}
+use Rattle.vlt_sound_calls.specs.Callee.{AreApartBy, caller_key}
+use Rattle.vlt_sound_calls.specs.Among.{Among}
 
 -- the caller's key of an entry is held in the states that the clause says for after the call
 abbrev pub told_row : Program → Func → (keys : List ℕ) → Entry → Row

@@ -5,7 +5,7 @@ use Rattle.std.specs.List.{flat_map}
 use Rattle.vlt_core.specs.Core.{States, Ty, int, bool, tracked, owning, guarded, variant, owning_variant, FieldDecl, CaseDecl, Func, Program}
 use Rattle.vlt_core.specs.Lookups.{is_owning, fields_of, cases_of, release_set}
 use Rattle.vlt_core.specs.Maps.{HeldMap}
-use Rattle.vlt_core.specs.Types.{decl_of, is_struct, is_variant, is_filled, is_keyed, is_owning_type, owning_parts, holds_fast, is_droppable_struct, is_droppable, lies_within}
+use Rattle.vlt_core.specs.Types.{decl_of, is_struct, is_variant, is_filled, is_keyed, is_owning_type, owning_parts, holds_undroppable, is_droppable_struct, is_droppable, lies_within}
 use Rattle.vlt_core.specs.KindedScopes.{Ids}
 use Rattle.vlt_meaning.specs.World.{Part, Value, objects_in, objects_in_part, Owner, loose, inside, adopted_by, gone, Object, Frame, above}
 use Rattle.vlt_meaning.specs.World as world
@@ -82,7 +82,7 @@ not_true false e = refl
 
 pub droppable_free : (p : Program) (t : ℕ) → is_droppable_struct p t ≡ true → IsFree p t
 droppable_free p t e =
-    record { is = not_true (holds_fast p (length p.types) t) (both_so (is_struct (decl_of p t)) (not (holds_fast p (length p.types) t)) e).1 }
+    record { is = not_true (holds_undroppable p (length p.types) t) (both_so (is_struct (decl_of p t)) (not (holds_undroppable p (length p.types) t)) e).1 }
 
 -- ---- values
 
@@ -183,9 +183,9 @@ module _ (p : Program) (s : Scene) (names : Names) where
       owned_ends p s names S t args f.part (droppable_free p t both.0) both.1
       (λ n j. small n (subst (λ a. In n (objects_in a)) (sym f.is) j)) f.fits m (subst (λ a. In m (objects_in a)) f.is i)
   value_ends (owning_variant t args) a e small f m i =
-      let rest = both_so (is_variant (decl_of p t) && not (is_keyed p t)) (not (holds_fast p (length p.types) t)) e in
+      let rest = both_so (is_variant (decl_of p t) && not (is_keyed p t)) (not (holds_undroppable p (length p.types) t)) e in
       let unkeyed = both_so (is_variant (decl_of p t)) (not (is_keyed p t)) rest.0 in
-      case_ends p s (names_of (map names args)) t (record { is = not_true (holds_fast p (length p.types) t) rest.1 })
+      case_ends p s (names_of (map names args)) t (record { is = not_true (holds_undroppable p (length p.types) t) rest.1 })
       (not_true (is_keyed p t) unkeyed.1) a small f m i
   value_ends int a e small f m i = cc
   value_ends bool a e small f m i = cc

@@ -1,6 +1,7 @@
 -- Which trees are of the language: lists that must have one thing or more, levels of operators, limits.
 use Rattle.std.specs.Prelude.{◌≡◌, ◌≤◌, ℕ, suc, ◌-◌, max, false, List, [], ◌∷◌, length, IfSome}
 use Rattle.vlt_base.specs.Limits.{limit_of}
+use Rattle.vlt_base.specs.declared.limits.TheConstants.{DECLARATIONS, STATES, FIELDS, CASES, PAYLOADS, PARAMETERS, DEPTH}
 use Rattle.vlt_ops.specs.declared.Op.{Op}
 use Rattle.vlt_ops.specs.Operator.{row_of}
 use Rattle.vlt_tokens.specs.Lexemes.{Lexeme}
@@ -24,13 +25,13 @@ pub record Bounds : Type 0 where
 -- those of the language
 abbrev pub language : Bounds
 language = record {
-  decls = limit_of 4;
-  states = limit_of 5;
-  fields = limit_of 6;
-  cases = limit_of 7;
-  payload = limit_of 8;
-  parameters = limit_of 9;
-  depth = limit_of 12;
+  decls = limit_of DECLARATIONS;
+  states = limit_of STATES;
+  fields = limit_of FIELDS;
+  cases = limit_of CASES;
+  payload = limit_of PAYLOADS;
+  parameters = limit_of PARAMETERS;
+  depth = limit_of DEPTH;
 }
 
 -- no more things than that
@@ -47,11 +48,7 @@ IsKeyStates k = IfSome k.states IsStates
 
 abbrev pub IsTy : Ty → Type 0
 IsTy (s.owning ss n at) = IfSome ss IsStates
-IsTy (s.int at) = Unit {0}
-IsTy (s.bool at) = Unit {0}
-IsTy (s.tracked k n at) = Unit {0}
-IsTy (s.guarded k n) = Unit {0}
-IsTy (s.plain n) = Unit {0}
+IsTy _ = Unit {0}
 
 -- ---- expressions
 
@@ -60,25 +57,17 @@ level o = (row_of o).level
 
 -- The outermost operator binds at least as tightly as `least`. Operators between operands group to the left.
 abbrev pub BindsFrom : ℕ → Expr → Type 0
-BindsFrom least (s.number z at) = Unit {0}
-BindsFrom least (s.true at) = Unit {0}
-BindsFrom least (s.false at) = Unit {0}
-BindsFrom least (s.variable x) = Unit {0}
-BindsFrom least (s.field x f) = Unit {0}
 BindsFrom least (s.group e at) = BindsFrom 0 e
 BindsFrom least (s.unary o e at) = ((row_of o).arity ≡ 1) × (least ≤ level o) × BindsFrom (level o) e
 BindsFrom least (s.binary o l r at) = ((row_of o).arity ≡ 2) × (least ≤ level o) × BindsFrom (level o) l × BindsFrom (suc (level o)) r
+BindsFrom least _ = Unit {0}
 
 -- A number, a name or a field has depth 1, an operator or a pair of parentheses one more than its deepest part.
 abbrev pub depth : Expr → ℕ
-depth (s.number z at) = 1
-depth (s.true at) = 1
-depth (s.false at) = 1
-depth (s.variable x) = 1
-depth (s.field x f) = 1
 depth (s.group e at) = suc (depth e)
 depth (s.unary o e at) = suc (depth e)
 depth (s.binary o l r at) = suc (max (depth l) (depth r))
+depth _ = 1
 
 abbrev pub IsExpr : Bounds → Expr → Type 0
 IsExpr b e = BindsFrom 0 e × (depth e ≤ b.depth)
@@ -124,15 +113,11 @@ abbrev mutual
   IsStmt b room (s.block body) = IsBlock b room body
   IsStmt b room (s.choose i) = IsIf b room i
   IsStmt b room (s.loop e body at) = IsExpr b e × IsBlock b room body
-  IsStmt b room (s.break at) = Unit {0}
-  IsStmt b room (s.continue at) = Unit {0}
   IsStmt b room (s.return v at) = IsReturned b v
   IsStmt b room (s.switch x arms at) = IsSomeArm arms × AreArms b room arms
-  IsStmt b room (s.release x at) = Unit {0}
-  IsStmt b room (s.become x t at) = Unit {0}
-  IsStmt b room (s.swap x f v at) = Unit {0}
   IsStmt b room (s.open_into x vs at) = IsFilled vs
   IsStmt b room (s.focus x k z body at) = IsBlock b room body
+  IsStmt b room _ = Unit {0}
 
   pub IsBlock : Bounds → ℕ → Block → Type 0
   IsBlock b room (s.braced ss at) = (1 ≤ room) × AreStmts b (room - 1) ss

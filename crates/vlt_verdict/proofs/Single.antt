@@ -8,7 +8,7 @@ use Rattle.vlt_core.specs.Faults.{FlowFault, IsFirstFault}
 use Rattle.vlt_kinds_types.specs.declared.names.found.Refusal.{Refusal}
 use Rattle.vlt_kinds_types.specs.Kinds.{Kinds}
 use Rattle.vlt_kinds.specs.Tables.{kinds_told}
-use Rattle.vlt_elaboration.specs.Elaboration.{Told, broken}
+use Rattle.vlt_elaboration.specs.Elaboration.{Refused, broken}
 use Rattle.vlt_core_laws.specs.Fit.{IsWellFormed}
 use Rattle.vlt_core_laws.specs.FaultLaws.{HasOneFirstFault}
 use Rattle.vlt_fit_laws.specs.Fit.{IsFitProgram, IsTextTree, ProgramsAreFit}
@@ -16,13 +16,13 @@ use Rattle.vlt_elaboration.specs.Programs.{with_kinds, program_told}
 use Rattle.vlt_verdict.specs.Verdicts.{IsFaultyIn, refused, faulty, accepted}
 use Rattle.vlt_verdict.specs.Laws.{GivesWellFormed, ProgramsHaveOneVerdict, HasOneVerdict}
 
-same_told : (a b : Told) → ◌≡◌ {A = Result Program Told} (Err a) (Err b) → a ≡ b
+same_told : (a b : Refused) → ◌≡◌ {A = Result Program Refused} (Err a) (Err b) → a ≡ b
 same_told a b e = cc
 
-same_program : (p q : Program) → ◌≡◌ {A = Result Program Told} (Ok p) (Ok q) → p ≡ q
+same_program : (p q : Program) → ◌≡◌ {A = Result Program Refused} (Ok p) (Ok q) → p ≡ q
 same_program p q e = cc
 
-ok_or_err : (x : Result Program Told) (r : Told) (p : Program) → x ≡ Err r → x ≡ Ok p → ⊥
+ok_or_err : (x : Result Program Refused) (r : Refused) (p : Program) → x ≡ Err r → x ≡ Ok p → ⊥
 ok_or_err x r p refuses tells = cc
 
 same_func : (p : Program) (x : FlowFault) (f g : Func) → slice_get p.fns x.function ≡ Some f → slice_get p.fns x.function ≡ Some g → f ≡ g
@@ -45,7 +45,7 @@ module _ (one : (p : Program) → HasOneFirstFault p) (none : (p : Program) (x :
       let func : f ≡ g = same_func p x f g a.there (subst (λ z. slice_get p.fns z.function ≡ Some g) (sym fault) b'.there) in
       ap (λ o. faulty o f x) same ∙ ap (λ o. faulty q o x) func ∙ ap (λ z. faulty q g z) fault
 
-  not_both : (told : Result Program Told) (p q : Program) (f : Func) (x : FlowFault) → GivesWellFormed told → told ≡ Ok p → told ≡ Ok q →
+  not_both : (told : Result Program Refused) (p q : Program) (f : Func) (x : FlowFault) → GivesWellFormed told → told ≡ Ok p → told ≡ Ok q →
       IsFaultyIn p f x → IsAccepted q → ⊥
   not_both told p q f x formed a b bad good =
       none p x (formed p a) (subst IsAccepted (sym (same_program p q (sym a ∙ b))) good) bad.first

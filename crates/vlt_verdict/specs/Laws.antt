@@ -4,7 +4,7 @@ use Rattle.vlt_syntax.specs.Tree.{Tree}
 use Rattle.vlt_base.specs.Sure.{Surely}
 use Rattle.vlt_core.specs.Core.{Program}
 use Rattle.vlt_core_laws.specs.Fit.{IsWellFormed}
-use Rattle.vlt_elaboration.specs.Elaboration.{Told}
+use Rattle.vlt_elaboration.specs.Elaboration.{Refused}
 use Rattle.vlt_fit_laws.specs.Fit.{IsTextTree}
 use Rattle.vlt_verdict.specs.Verdicts.{Verdict, IsVerdict, IsVerdictOf}
 
@@ -19,12 +19,12 @@ HasSomeVerdict = (t : Tree) → IsTextTree t → Surely ((v : Verdict) × IsVerd
 -- ---- whatever gives the program
 
 -- where elaboration gives a program, it is one that the laws on checks are about
-abbrev pub GivesWellFormed : Result Program Told → Type 0
+abbrev pub GivesWellFormed : Result Program Refused → Type 0
 GivesWellFormed told = (p : Program) → told ≡ Ok p → IsWellFormed p
 
 abbrev pub ProgramsHaveOneVerdict : Type 0
 ProgramsHaveOneVerdict =
-    (told : Result Program Told) (v w : Verdict) → GivesWellFormed told → IsVerdict told v → IsVerdict told w → v ≡ w
+    (told : Result Program Refused) (v w : Verdict) → GivesWellFormed told → IsVerdict told v → IsVerdict told w → v ≡ w
 
 abbrev pub ProgramsHaveSomeVerdict : Type 0
-ProgramsHaveSomeVerdict = (told : Result Program Told) → GivesWellFormed told → Surely ((v : Verdict) × IsVerdict told v)
+ProgramsHaveSomeVerdict = (told : Result Program Refused) → GivesWellFormed told → Surely ((v : Verdict) × IsVerdict told v)

@@ -4,12 +4,12 @@ use Rattle.vlt_syntax.specs.Tree.{Tree}
 use Rattle.vlt_core.specs.Core.{Func, Program}
 use Rattle.vlt_core.specs.Derives.{IsAccepted}
 use Rattle.vlt_core.specs.Faults.{FlowFault, IsFirstFault}
-use Rattle.vlt_elaboration.specs.Elaboration.{Told}
+use Rattle.vlt_elaboration.specs.Elaboration.{Refused}
 use Rattle.vlt_elaboration.specs.Programs.{program_told}
 
 pub data Verdict : Type 0 where
   -- a rule on names and types, at its place, or a limit
-  refused : Told → Verdict
+  refused : Refused → Verdict
   -- the function breaks the rules on keys; this is the first fault
   faulty : Program → Func → FlowFault → Verdict
   accepted : Program → Verdict
@@ -19,7 +19,7 @@ pub record IsFaultyIn (p : Program) (f : Func) (x : FlowFault) : Type 0 where
   pub first : IsFirstFault p x
 
 -- the verdict where elaboration gives this
-abbrev pub IsVerdict : Result Program Told → Verdict → Type 0
+abbrev pub IsVerdict : Result Program Refused → Verdict → Type 0
 IsVerdict told (refused r) = told ≡ Err r
 IsVerdict told (faulty p f x) = (told ≡ Ok p) × IsFaultyIn p f x
 IsVerdict told (accepted p) = (told ≡ Ok p) × IsAccepted p

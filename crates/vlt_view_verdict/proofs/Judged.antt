@@ -4,7 +4,7 @@ use Rattle.vlt_core.specs.Core.{Program}
 use Rattle.vlt_core.specs.Faults.{FlowFault, IsFirstFault}
 use Rattle.vlt_kinds_types.specs.declared.names.found.Refusal.{Refusal}
 use Rattle.vlt_kinds_types.specs.Kinds.{Kinds}
-use Rattle.vlt_elaboration.specs.Elaboration.{Told, broken}
+use Rattle.vlt_elaboration.specs.Elaboration.{Refused, broken}
 use Rattle.vlt_iface.specs.View.{View}
 use Rattle.vlt_views.specs.Views.{view_kinds_told, view_elaborated}
 use Rattle.vlt_link_laws.specs.Link.{ViewProgramsAreJudgeable}
@@ -19,7 +19,7 @@ pub declarations_refused : (v : View) (with_main : Bool) (r : Refusal) → view_
 declarations_refused v with_main r e = ap (with_view_kinds v with_main) e
 
 -- what comes of a view whose declarations aren't refused
-pub told_of : (v : View) (with_main : Bool) (kinds : Kinds) (x : Result Program Told) → view_kinds_told v ≡ Ok kinds → view_elaborated v kinds with_main ≡ x →
+pub told_of : (v : View) (with_main : Bool) (kinds : Kinds) (x : Result Program Refused) → view_kinds_told v ≡ Ok kinds → view_elaborated v kinds with_main ≡ x →
     view_program_told v with_main ≡ x
 told_of v with_main kinds x e is = ap (with_view_kinds v with_main) e ∙ is
 

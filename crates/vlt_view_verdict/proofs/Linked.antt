@@ -17,7 +17,7 @@ pub record HasKinds (v : View) (with_main : Bool) (p : Program) : Type 0 where
   pub told : view_kinds_told v ≡ Ok kinds
   pub gives : view_elaborated v kinds with_main ≡ Ok p
 
-err_or_ok : (r : elab.Told) (p : Program) → ◌≡◌ {A = Result Program elab.Told} (Err r) (Ok p) → ⊥
+err_or_ok : (r : elab.Refused) (p : Program) → ◌≡◌ {A = Result Program elab.Refused} (Err r) (Ok p) → ⊥
 err_or_ok r p e = cc
 
 pub with_its_kinds : (v : View) (with_main : Bool) (p : Program) → view_program_told v with_main ≡ Ok p → HasKinds v with_main p

@@ -12,7 +12,7 @@ use Rattle.vlt_kinds_decls.specs.Decls.{types_refused}
 use Rattle.vlt_kinds_heads.specs.Phase.{heads_refused}
 use Rattle.vlt_kinds_types.specs.Kinds.{Kinds}
 use Rattle.vlt_kinds.specs.Tables.{kinds_of, unless}
-use Rattle.vlt_elaboration.specs.Elaboration.{Told, broken, elaborated}
+use Rattle.vlt_elaboration.specs.Elaboration.{Refused, broken, elaborated}
 use Rattle.vlt_iface.specs.declared.places.TheConstants.{RAISE}
 use Rattle.vlt_iface.specs.View.{View}
 use Rattle.vlt_views.specs.Hidden.{hidden_names, own_refused}
@@ -46,6 +46,6 @@ lacks_main with_main ds = with_main && not (list_any is_main ds)
 
 -- The core program of a view whose declarations are of these kinds, or the first refusal. The rule on main comes before all bodies,
 -- at the module's first byte.
-abbrev pub view_elaborated : View → Kinds → (with_main : Bool) → Result Program Told
+abbrev pub view_elaborated : View → Kinds → (with_main : Bool) → Result Program Refused
 view_elaborated v kinds with_main =
     if lacks_main with_main v.tree.decls then Err (broken NO_MAIN RAISE) else elaborated v.tree kinds

@@ -98,7 +98,7 @@ each_atom p (x ∷ atoms) (t ∷ tys) (y ∷ parts) F bs h =
 atom_kept : (vs : List CVar) (v : CVar) (a : Atom) (b : cw.Value) (F : crun.Frame) (bs : Blocks) → IsApart (v ∷ vs) a → cvalues.value_of (atom_expr a) (crun.with_var v b F).vars bs ≡ cvalues.value_of (atom_expr a) F.vars bs
 atom_kept vs v (number z) b F bs h = refl
 atom_kept vs v null b F bs h = refl
-atom_kept vs v (variable x) b F bs h = ap cvalues.set_or_5 (var_kept v b x F h.0)
+atom_kept vs v (variable x) b F bs h = ap cvalues.or_unset (var_kept v b x F h.0)
 
 fewer : (vs : List CVar) (v : CVar) (a : Atom) → IsApart (v ∷ vs) a → IsApart vs a
 fewer vs v (number z) h = tt

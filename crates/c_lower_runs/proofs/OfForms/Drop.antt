@@ -6,7 +6,7 @@ use Rattle.std.proofs.lemmas.Option.{none-some, same_Some}
 use Rattle.vlt_core.specs.Core as core
 use Rattle.vlt_core.specs.Core.{Ty, CaseDecl, Func, Program}
 use Rattle.vlt_core.specs.Lookups.{is_owning, cases_of, case_at}
-use Rattle.vlt_core.specs.Types.{is_droppable, is_keyed, is_filled, is_variant, decl_of, holds_fast}
+use Rattle.vlt_core.specs.Types.{is_droppable, is_keyed, is_filled, is_variant, decl_of, holds_undroppable}
 use Rattle.vlt_core.specs.KindedHeads.{unless, when_some}
 use Rattle.vlt_core.specs.KindedScopes.{use_broken}
 use Rattle.vlt_core.specs.declared.rules.TheConstants as rule
@@ -151,7 +151,7 @@ droppable_unkeyed p (core.tracked j t args) e = refl
 droppable_unkeyed p (core.guarded j t args) e = refl
 droppable_unkeyed p (core.owning states t args) e = refl
 droppable_unkeyed p (core.variant t args) e = absurd (false≢true e)
-droppable_unkeyed p (core.owning_variant t args) e = and_right (is_variant (decl_of p t)) (not (is_keyed p t)) (and_left (is_variant (decl_of p t) && not (is_keyed p t)) (not (holds_fast p (length p.types) t)) e)
+droppable_unkeyed p (core.owning_variant t args) e = and_right (is_variant (decl_of p t)) (not (is_keyed p t)) (and_left (is_variant (decl_of p t) && not (is_keyed p t)) (not (holds_undroppable p (length p.types) t)) e)
 
 module _ (p : Program) (heap depth : ℕ) (R : crun.Setup) (m : run.Meaning) (cm : crun.Meaning) (n : ℕ) where
   pub drop_same : (f : Func) (v : ℕ) → IsFunction p f → IsSameForm p (record { program = p; heap = heap; depth = depth }) R m cm n f (core.simple (core.drop v))

@@ -99,7 +99,7 @@ module _ (p : Program) (f : Func) (ids : Ids) (scoped : IsBound ids) (x : ℕ) (
       cvalues.value_of (atom_expr a) (crun.with_var (slot_of p f x) b F).vars bs ≡ cvalues.value_of (atom_expr a) F.vars bs
   atom_still ty (number z) b F bs is h = refl
   atom_still ty null b F bs is h = refl
-  atom_still ty (variable y) b F bs is h = ap cvalues.set_or_5 (var_kept (slot_of p f x) b y F (first_apart p f x ty y is h))
+  atom_still ty (variable y) b F bs is h = ap cvalues.or_unset (var_kept (slot_of p f x) b y F (first_apart p f x ty y is h))
 
   atoms_still : (ty : Ty) (atoms : List Atom) (vs : List cw.Value) (b : cw.Value) (F : crun.Frame) (bs : Blocks) → var_type f x ≡ Some ty → Each (IsApart (slot_vars p f x)) atoms → HaveAtoms atoms vs F bs → HaveAtoms atoms vs (crun.with_var (slot_of p f x) b F) bs
   atoms_still ty [] [] b F bs is e h = tt

@@ -115,7 +115,7 @@ vars_have [] (a ∷ values) h bs e = absurd e
 vars_have (v ∷ vs) [] h bs e = absurd e
 vars_have (v ∷ vs) (a ∷ values) h bs e = (set_is (h.vars v) e.0, vars_have vs values h bs e.1)
   where
-    set_is : (o : Option cw.Value) → cvalues.set_or_5 o ≡ Ok a → o ≡ Some a
+    set_is : (o : Option cw.Value) → cvalues.or_unset o ≡ Ok a → o ≡ Some a
     set_is None e = absurd (never e)
       where
         never : (let r : Result cw.Value ℕ = Err 5 in r ≡ Ok a) → ⊥

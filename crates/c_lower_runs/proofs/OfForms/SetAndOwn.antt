@@ -140,7 +140,7 @@ module _ (R : crun.Setup) (cm : crun.Meaning) where
   single_copied (v ∷ u ∷ vs) a (x ∷ []) frame w h long = absurd (omega arith)
   single_copied (v ∷ vs) a (x ∷ y ∷ values) frame w h long = absurd h.1
 
-  set_value : (o : Option cw.Value) (a : cw.Value) → cvalues.set_or_5 o ≡ Ok a → o ≡ Some a
+  set_value : (o : Option cw.Value) (a : cw.Value) → cvalues.or_unset o ≡ Ok a → o ≡ Some a
   set_value None a e = absurd (never a e)
     where
       never : (a : cw.Value) → (let r : Rattle.std.specs.Prelude.Result cw.Value ℕ = Rattle.std.specs.Prelude.Err 5 in r ≡ Ok a) → ⊥

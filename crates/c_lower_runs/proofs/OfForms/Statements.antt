@@ -10,7 +10,8 @@ use Rattle.c_lower.specs.Statements.{form_code, block_code, list_code, body_of}
 use Rattle.c_lower_worlds.proofs.VariableValues.{alike_spares}
 use Rattle.vlt_core.specs.KindedOperands.{value_broken}
 use Rattle.c_lower_worlds.proofs.OfNaming.RuleFacts.{both_empty}
-use Rattle.vlt_core_laws.proofs.Unbroken.{each_left, each_right, EachEmpty}
+use Rattle.vlt_core_laws.proofs.Unbroken.{each_left, each_right}
+use Rattle.vlt_core_laws.specs.Unbroken.{EachEmpty}
 use Rattle.vlt_core_laws.proofs.Ids.{and_left, and_right}
 use Rattle.vlt_meaning.specs.Run as run
 use Rattle.c_lower_worlds.specs.Parts.{NumbersAreRight, Parts}

@@ -15,7 +15,7 @@ use Rattle.c_meaning.specs.World as cw
 use Rattle.c_meaning.specs.World.{Value, number, reference}
 use Rattle.c_meaning.specs.Values as cvalues
 use Rattle.c_meaning.specs.Values.{p_variable, cell_value}
-use Rattle.c_meaning.specs.Blocks.{Block, Blocks, live_block, is_there, or_8, passes, is_free, is_child, blocks_after_own, blocks_after_disown, with_changed_block, with_parent}
+use Rattle.c_meaning.specs.Blocks.{Block, Blocks, live_block, is_there, or_misused, passes, is_free, is_child, blocks_after_own, blocks_after_disown, with_changed_block, with_parent}
 use Rattle.c_meaning.specs.Primitives as effect
 use Rattle.c_meaning.specs.Primitives.{put_does, or_broken, on_reference, on_references}
 use Rattle.c_meaning.specs.Run as crun
@@ -73,16 +73,16 @@ after_one pre s v h = by s v h
 
 -- ---- what a test of a primitive says
 
-or_8_passes : {A : Type 0} (b : Bool) (x y : A) → (let r : Result A ℕ = or_8 b x in r ≡ Ok y) → b ≡ true
-or_8_passes true x y e = refl
-or_8_passes false x y e = absurd (never y e)
+or_misused_passes : {A : Type 0} (b : Bool) (x y : A) → (let r : Result A ℕ = or_misused b x in r ≡ Ok y) → b ≡ true
+or_misused_passes true x y e = refl
+or_misused_passes false x y e = absurd (never y e)
   where
     never : {A : Type 0} (y : A) → (let r : Result A ℕ = Rattle.std.specs.Prelude.Err 8 in r ≡ Ok y) → ⊥
     never y e = cc
 
-or_8_is : {A : Type 0} (b : Bool) (x y : A) → (let r : Result A ℕ = or_8 b x in r ≡ Ok y) → x ≡ y
-or_8_is true x y e = cc
-or_8_is false x y e = absurd (never y e)
+or_misused_is : {A : Type 0} (b : Bool) (x y : A) → (let r : Result A ℕ = or_misused b x in r ≡ Ok y) → x ≡ y
+or_misused_is true x y e = cc
+or_misused_is false x y e = absurd (never y e)
   where
     never : {A : Type 0} (y : A) → (let r : Result A ℕ = Rattle.std.specs.Prelude.Err 8 in r ≡ Ok y) → ⊥
     never y e = cc
@@ -197,7 +197,7 @@ module _ (p : Program) (R : crun.Setup) (cm : crun.Meaning) (n : ℕ) (o : Objec
       let now = with_changed_object x (with_owner loose) os in
       let disowned = disown_is p os x a.object loose there (ap is_out owner) (record { above = refl; out = refl; live = refl }) in
       let changed : with_changed_block x (with_parent None) (blocks_of p os) ≡ blocks_of p now =
-      or_8_is (is_there (live_block (blocks_of p os) x)) (with_changed_block x (with_parent None) (blocks_of p os)) (blocks_of p now) disowned in
+      or_misused_is (is_there (live_block (blocks_of p os) x)) (with_changed_block x (with_parent None) (blocks_of p os)) (blocks_of p now) disowned in
       record {
         now = now;
         rest = a.rest;
@@ -225,10 +225,10 @@ module _ (p : Program) (R : crun.Setup) (cm : crun.Meaning) (n : ℕ) (o : Objec
       let now = with_changed_object y (with_owner (inside n)) os in
       let owned = own_is p os y n a.object o (inside n) there (known os at) fr free.above other refl refl refl in
       let changed : with_changed_block y (with_parent (Some n)) (blocks_of p os) ≡ blocks_of p now =
-      or_8_is (passes is_free (live_block (blocks_of p os) y) && (not (Rattle.std.specs.Prelude.◌==◌ y n) && passes (λ b. not (is_child b)) (live_block (blocks_of p os) n))) (with_changed_block y (with_parent (Some n)) (blocks_of p os)) (blocks_of p now) owned in
+      or_misused_is (passes is_free (live_block (blocks_of p os) y) && (not (Rattle.std.specs.Prelude.◌==◌ y n) && passes (λ b. not (is_child b)) (live_block (blocks_of p os) n))) (with_changed_block y (with_parent (Some n)) (blocks_of p os)) (blocks_of p now) owned in
       let is_free_block : passes is_free (live_block (blocks_of p os) y) ≡ true =
       and_left (passes is_free (live_block (blocks_of p os) y)) (not (Rattle.std.specs.Prelude.◌==◌ y n) && passes (λ b. not (is_child b)) (live_block (blocks_of p os) n))
-      (or_8_passes (passes is_free (live_block (blocks_of p os) y) && (not (Rattle.std.specs.Prelude.◌==◌ y n) && passes (λ b. not (is_child b)) (live_block (blocks_of p os) n))) (with_changed_block y (with_parent (Some n)) (blocks_of p os)) (blocks_of p now) owned) in
+      (or_misused_passes (passes is_free (live_block (blocks_of p os) y) && (not (Rattle.std.specs.Prelude.◌==◌ y n) && passes (λ b. not (is_child b)) (live_block (blocks_of p os) n))) (with_changed_block y (with_parent (Some n)) (blocks_of p os)) (blocks_of p now) owned) in
       record {
         now = now;
         mid = with_changed_object y (with_owner (inside n)) mid;

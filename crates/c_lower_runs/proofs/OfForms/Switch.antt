@@ -62,7 +62,8 @@ use Rattle.c_lower_worlds.proofs.VariableSlots.{Apart, each_map, starts, below_t
 use Rattle.c_lower_worlds.proofs.SameSteps.{found_same, where_same, then_same, earlier, fewer_same, spares_self, spares_more, goes_same}
 use Rattle.c_lower_worlds.proofs.OfNaming.DeclaredVariables.{bound_declared}
 use Rattle.c_lower_worlds.proofs.OfNaming.RuleFacts.{both_empty}
-use Rattle.vlt_core_laws.proofs.Unbroken.{unless_holds, each_left, each_right, EachEmpty, filled_not_empty}
+use Rattle.vlt_core_laws.proofs.Unbroken.{unless_holds, each_left, each_right, filled_not_empty}
+use Rattle.vlt_core_laws.specs.Unbroken.{EachEmpty}
 use Rattle.vlt_core_laws.proofs.Ids.{and_left, and_right, is_false}
 use Rattle.c_lower_worlds.proofs.VariableValues.{typed, slot_below, spares_slot, spares_temp, spares_fewer, temp_alike, owner_types, owner_shaped}
 

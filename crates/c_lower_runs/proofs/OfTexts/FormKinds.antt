@@ -12,7 +12,8 @@ use Rattle.vlt_core.specs.KindedOperands.{misfit, value_broken}
 use Rattle.vlt_core.specs.KindedStatements as kinded
 use Rattle.vlt_core.specs.KindedBodies.{ends, in_loop, in_focus, with_focus, with_vars, owning_toks, switch_broken, arm_vars_broken, arm_broken, focus_broken, list_broken, arms_broken, row_broken, form_rows, block_rows, stmts_rows, arms_rows, ids_following, ids_following_block}
 use Rattle.vlt_core.specs.declared.rules.TheConstants as rule
-use Rattle.vlt_core_laws.proofs.Unbroken.{EachEmpty, each_left, each_right, unless_holds}
+use Rattle.vlt_core_laws.proofs.Unbroken.{each_left, each_right, unless_holds}
+use Rattle.vlt_core_laws.specs.Unbroken.{EachEmpty}
 use Rattle.c_syntax.specs.declared.program.CResult.TheVariants as result
 use Rattle.c_syntax.specs.declared.program.CVar.{CVar}
 use Rattle.c_syntax.specs.declared.program.CPrim.TheVariants as prim

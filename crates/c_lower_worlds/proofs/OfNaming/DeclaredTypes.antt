@@ -15,7 +15,8 @@ use Rattle.vlt_core.specs.declared.rules.TheConstants as rule
 use Rattle.vlt_core.specs.Kinded.{has_main, function_rows, rows_broken, IsKinded}
 use Rattle.c_lower_worlds.specs.Naming.Functions.{IsFunction}
 use Rattle.c_lower_worlds.specs.Naming.Types.{TypesFit, names_variant, names_object}
-use Rattle.vlt_core_laws.proofs.Unbroken.{each_left, each_right, each_of_first, unless_holds, EachEmpty, filled_not_empty}
+use Rattle.vlt_core_laws.proofs.Unbroken.{each_left, each_right, each_of_first, unless_holds, filled_not_empty}
+use Rattle.vlt_core_laws.specs.Unbroken.{EachEmpty}
 use Rattle.c_lower_worlds.proofs.OfNaming.KindedBodies.{none_numbered, function_kinded}
 use Rattle.c_lower_worlds.proofs.OfNaming.RuleFacts.{both_empty}
 use Rattle.vlt_core_laws.proofs.Headed.{each_at}

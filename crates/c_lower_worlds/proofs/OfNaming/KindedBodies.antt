@@ -12,7 +12,8 @@ use Rattle.vlt_core.specs.Kinded.{has_main, function_rows, rows_broken, IsKinded
 use Rattle.vlt_core_laws.proofs.Instanced.{body_rows_same}
 use Rattle.c_lower_worlds.specs.Naming.KindedParts.{AreKinded, HasKindedBodies}
 use Rattle.c_lower_worlds.proofs.OfNaming.RuleFacts.{both_empty}
-use Rattle.vlt_core_laws.proofs.Unbroken.{EachEmpty, each_left, each_right, each_of_first}
+use Rattle.vlt_core_laws.proofs.Unbroken.{each_left, each_right, each_of_first}
+use Rattle.vlt_core_laws.specs.Unbroken.{EachEmpty}
 use Rattle.vlt_core.specs.Proper.{HasProperBodies}
 
 pub none_numbered : {A : Type 0} (go : ℕ × A → List Rules) (from : ℕ) (xs : List A) (i : ℕ) (x : A) →

@@ -14,7 +14,8 @@ use Rattle.vlt_core.specs.KindedScopes.{Ids, Around, at_block_start, left_behind
 use Rattle.vlt_core.specs.KindedOperands.{misfit}
 use Rattle.vlt_core.specs.KindedBodies.{with_vars, with_focus, arm_vars_broken, focus_broken, first_ids, ids_following, ids_following_block, row_broken, form_rows, block_rows}
 use Rattle.vlt_core_laws.specs.Scoped.{is_bound}
-use Rattle.vlt_core_laws.proofs.Unbroken.{EachEmpty, right_empty}
+use Rattle.vlt_core_laws.proofs.Unbroken.{right_empty}
+use Rattle.vlt_core_laws.specs.Unbroken.{EachEmpty}
 use Rattle.vlt_core_laws.proofs.Ids.{type_keys, keys_in_type, AreTyped, Goes, or_split, not_both, same_number}
 use Rattle.vlt_core_laws.proofs.Binding.{IsInRange, binding_goes, own_in_range}
 use Rattle.vlt_core_laws.proofs.Going.{form_goes, block_goes, vars_grow, leaves}

@@ -25,7 +25,8 @@ use Rattle.vlt_meaning.specs.Operands.{Case, with_empty_variable, with_operands}
 use Rattle.vlt_meaning.specs.Calls.{entries_after, called_instance, state_under, callee_frame}
 use Rattle.vlt_meaning.specs.Run as run
 use Rattle.vlt_meaning.specs.Run.{Meaning}
-use Rattle.vlt_core_laws.proofs.Unbroken.{EachEmpty, right_empty, each_left, each_right, filled_not_empty, unless_holds, each_of_first}
+use Rattle.vlt_core_laws.proofs.Unbroken.{right_empty, each_left, each_right, filled_not_empty, unless_holds, each_of_first}
+use Rattle.vlt_core_laws.specs.Unbroken.{EachEmpty}
 use Rattle.vlt_core_laws.proofs.Ids.{or_right}
 use Rattle.vlt_core_laws.proofs.Binding.{has_first}
 use Rattle.vlt_core_laws.proofs.Going.{form_goes, block_goes, stmts_go, vars_grow}

@@ -8,7 +8,7 @@ use Rattle.vlt_meaning.specs.Values as meaning
 use Rattle.vlt_meaning.specs.Found.{Found, ◌>>=◌, or_fault}
 use Rattle.c_syntax.specs.declared.program.CVar.{CVar}
 use Rattle.c_meaning.specs.World.{World, number}
-use Rattle.c_meaning.specs.Values.{value_of, set_or_5, p_variable}
+use Rattle.c_meaning.specs.Values.{value_of, or_unset, p_variable}
 use Rattle.c_syntax.specs.C as c
 use Rattle.c_syntax.specs.declared.program.CCell.TheVariants as cell
 use Rattle.c_meaning.specs.Run.{Frame}
@@ -119,7 +119,7 @@ variables_stand p f s objects frame w stand v z e u g alike =
     let found = stand.declared v z there in
     let kept = alike.vars (slot_of p f v) (var_slot_below p f v found.0 found.1) in
     ap (λ x. value_of x g.vars w.blocks) (var_atom p f v found.0 u found.1)
-    ∙ ap set_or_5 (sym kept ∙ stand.slots v z there)
+    ∙ ap or_unset (sym kept ∙ stand.slots v z there)
 
 -- ---- fields
 

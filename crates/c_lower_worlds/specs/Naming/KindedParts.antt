@@ -7,7 +7,7 @@ use Rattle.vlt_core.specs.KindedHeads.{has}
 use Rattle.vlt_core.specs.KindedScopes.{Ids, Around}
 use Rattle.vlt_core.specs.KindedBodies.{row_broken, form_rows, block_rows, stmts_rows, first_ids}
 use Rattle.vlt_core.specs.Proper.{is_proper, all_in_operand, all_in_operands, all_in_simple, all_in_return, all_in_form, all_in_block, all_in, all_in_arms}
-use Rattle.vlt_core_laws.proofs.Unbroken.{EachEmpty}
+use Rattle.vlt_core_laws.specs.Unbroken.{EachEmpty}
 
 -- what is in scope was bound: the rules at a statement are asked of such scopes alone
 pub record IsBound (ids : Ids) : Type 0 where

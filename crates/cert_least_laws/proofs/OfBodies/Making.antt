@@ -18,7 +18,8 @@ use Rattle.std.specs.List.{flat_map}
 use Rattle.vlt_core_laws.specs.Fit.{IsFitBody}
 use Rattle.vlt_core_laws.specs.Sweep.{found_head_block, found_exit_block}
 use Rattle.vlt_core_laws.proofs.Ids.{type_keys}
-use Rattle.vlt_core_laws.proofs.Unbroken.{EachEmpty, some_same, some_not_none}
+use Rattle.vlt_core_laws.proofs.Unbroken.{some_same, some_not_none}
+use Rattle.vlt_core_laws.specs.Unbroken.{EachEmpty}
 use Rattle.cert_rows.specs.Parts.{All}
 use Rattle.cert_rows.specs.Values.{map_part, maps_part}
 use Rattle.cert_rows.specs.Rows.{Maps}

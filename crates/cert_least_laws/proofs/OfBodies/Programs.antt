@@ -13,7 +13,7 @@ use Rattle.vlt_core_laws.specs.Fit.{IsWellFormed}
 use Rattle.vlt_core_laws.proofs.Formed.{formed_bodies}
 use Rattle.vlt_core_laws.proofs.Headed.{kinded_parts, function_empty, head_empty, each_at, ranged_keys, entries_fit}
 use Rattle.vlt_core_laws.proofs.Origins.{origin_is}
-use Rattle.vlt_core_laws.proofs.Unbroken.{EachEmpty}
+use Rattle.vlt_core_laws.specs.Unbroken.{EachEmpty}
 use Rattle.cert_format.specs.Notes.{Note}
 use Rattle.cert_fit_laws.specs.Limits.{IsLimitedSet, IsLimitedType, IsLimitedFunc, IsLimitedProgram}
 use Rattle.cert_fit_laws.proofs.Listed.{all_at}

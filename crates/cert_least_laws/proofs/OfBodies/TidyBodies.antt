@@ -20,7 +20,8 @@ use Rattle.vlt_core_laws.proofs.Binding.{in_range}
 use Rattle.vlt_core_laws.proofs.Headed.{each_at}
 use Rattle.vlt_core_laws.proofs.Ids.{type_keys}
 use Rattle.vlt_core_laws.proofs.Starting.{made_at}
-use Rattle.vlt_core_laws.proofs.Unbroken.{EachEmpty, right_empty, each_left, each_right}
+use Rattle.vlt_core_laws.proofs.Unbroken.{right_empty, each_left, each_right}
+use Rattle.vlt_core_laws.specs.Unbroken.{EachEmpty}
 use Rattle.cert_fit_laws.proofs.NarrowNumbers.{Bounds}
 use Rattle.cert_least_laws.proofs.OfBodies.Kept.{EachRow, EachRowBlock, EachRowStmts, EachRowArms}
 use Rattle.cert_least_laws.specs.Bodies.Narrow.{IsNarrow, HasNarrow}

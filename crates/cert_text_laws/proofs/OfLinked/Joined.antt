@@ -10,7 +10,7 @@ use Rattle.vlt_core.specs.Core.{Program}
 use Rattle.vlt_kinds_types.specs.declared.names.found.Refusal.{Refusal}
 use Rattle.vlt_kinds_types.specs.Kinds.{Kinds}
 use Rattle.vlt_kinds.specs.Tables.{kinds_told}
-use Rattle.vlt_elaboration.specs.Elaboration.{Told, broken}
+use Rattle.vlt_elaboration.specs.Elaboration.{Refused, broken}
 use Rattle.vlt_elaboration.specs.Programs.{with_kinds, program_told}
 use Rattle.vlt_iface.specs.declared.places.TheConstants.{RAISE}
 use Rattle.vlt_iface.specs.View.{joined}
@@ -33,7 +33,7 @@ short t x = short_in x.lexemes t x.few x.tree.1
 raised_short : (d : Decl) → IsShort d → IsShort (raised RAISE d)
 raised_short d (rest, few) = (rest, subst (λ ts. length ts ≤ limit_of 3) (sym (decl_same RAISE d rest)) few)
 
-err_or_ok : (r : Told) (p : Program) → ◌≡◌ {A = Result Program Told} (Err r) (Ok p) → ⊥
+err_or_ok : (r : Refused) (p : Program) → ◌≡◌ {A = Result Program Refused} (Err r) (Ok p) → ⊥
 err_or_ok r p e = cc
 
 module _ (i f g t : Tree) (one : IsTreeOfText i) (two : IsTreeOfText f) (three : IsTreeOfText g) (same : joined i f g ≡ t) (tree : IsTextTree t) (p : Program) where

@@ -3,6 +3,7 @@
 ghost use Rattle.std.specs.Prelude.{◌≡◌, ◌<◌, ◌+◌, ◌↔◌, IsTrue, map};
 ghost use Rattle.std.specs.List.{count_by, sum_by};
 ghost use Rattle.vlt_base.specs.Limits.{limit_of};
+ghost use Rattle.vlt_base.specs.declared.limits.TheConstants as limits;
 ghost use Rattle.vlt_core.specs.View.{program_of, field_of, case_of, var_of, ty_of};
 ghost use Rattle.vlt_core.specs.Widths as widths;
 ghost use Rattle.vlt_core.specs.Widths.{greatest, slots_needed};
@@ -125,7 +126,8 @@ fn widest_type(p: &Program) -> u128
 
 /// Whether so many frames and objects could have more slots than limit 13 allows.
 pub fn is_too_wide(p: &Program, depth: u32, heap: u32) -> bool
-    ensures { IsTrue result ↔ (limit_of 13 < slots_needed (program_of p.now) depth heap) }
+    ensures { IsTrue result ↔
+        (limit_of limits.VALUE_SLOTS < slots_needed (program_of p.now) depth heap) }
 {
     let frames = u128::from(depth).saturating_mul(widest_function(p));
     let objects = u128::from(heap).saturating_mul(widest_type(p));
@@ -134,7 +136,8 @@ pub fn is_too_wide(p: &Program, depth: u32, heap: u32) -> bool
 
 /// The same with one slot more for each object.
 pub fn is_too_wide_for_host(p: &Program, depth: u32, heap: u32) -> bool
-    ensures { IsTrue result ↔ (limit_of 13 < slots_needed (program_of p.now) depth heap + heap) }
+    ensures { IsTrue result ↔
+        (limit_of limits.VALUE_SLOTS < slots_needed (program_of p.now) depth heap + heap) }
 {
     let frames = u128::from(depth).saturating_mul(widest_function(p));
     let objects = u128::from(heap).saturating_mul(widest_type(p));

@@ -4,7 +4,7 @@ use Rattle.std.proofs.lemmas.List.{map-append}
 use Rattle.std.specs.List.{list_any, flat_map}
 use Rattle.vlt_core.specs.Core.{Ty, int, bool, tracked, owning, guarded, variant, owning_variant, FieldDecl, CaseDecl, TypeDecl, an_abstract, a_struct, a_variant, Program}
 use Rattle.vlt_core.specs.Lookups.{is_owning, fields_in, fields_of, cases_in, cases_of, release_set}
-use Rattle.vlt_core.specs.Types.{decl_of, is_struct, is_variant, is_filled, is_keyed, owning_parts, is_fast, part_type, holds_fast, is_droppable_struct, is_droppable, lies_within}
+use Rattle.vlt_core.specs.Types.{decl_of, is_struct, is_variant, is_filled, is_keyed, owning_parts, is_undroppable_part, part_type, holds_undroppable, is_droppable_struct, is_droppable, lies_within}
 use Rattle.vlt_link_laws.specs.CoreMoves.Moves.{Moves, moved_ty, moved_field, moved_case}
 use Rattle.vlt_link_laws.specs.CoreMoves.Keeps.{Keeps}
 use Rattle.vlt_link_laws.specs.CoreMoves.Knows.{IsStruct, IsVariant}
@@ -104,7 +104,7 @@ module _ (m : Moves) where
         ap (λ o. list_any (λ c. is_filled c.keys) (cases_in o)) (keeps.variants t s.decl s.is) ∙ (keyed_same s.decl.cases ∙ sym (ap (λ o. list_any (λ c. is_filled c.keys) (cases_in o)) s.is))
 
     -- what is known of a part that isn't fast
-    part_solid : (ty : Ty) → is_owning ty ≡ true → is_fast p ty ≡ false → IsSolid p (part_type ty) × (is_fast q (moved_ty m ty) ≡ false) × (part_type (moved_ty m ty) ≡ m.types (part_type ty))
+    part_solid : (ty : Ty) → is_owning ty ≡ true → is_undroppable_part p ty ≡ false → IsSolid p (part_type ty) × (is_undroppable_part q (moved_ty m ty) ≡ false) × (part_type (moved_ty m ty) ≡ m.types (part_type ty))
     part_solid (owning S t args) o e =
         let both = and_both (is_struct (decl_of p t)) (lies_within S (release_set p t)) (not_false (is_struct (decl_of p t) && lies_within S (release_set p t)) e) in
         let s = struct_there p t both.0 in
@@ -119,41 +119,41 @@ module _ (m : Moves) where
     part_solid (guarded k t args) o e = absurd (true≢false (sym o))
     part_solid (variant t args) o e = absurd (true≢false (sym o))
 
-    part_of : (t : ℕ) → IsFree p t → (ty : Ty) → IsAmong ty (owning_parts p t) → IsSolid p (part_type ty) × (is_fast q (moved_ty m ty) ≡ false) × (part_type (moved_ty m ty) ≡ m.types (part_type ty)) × IsFree p (part_type ty)
+    part_of : (t : ℕ) → IsFree p t → (ty : Ty) → IsAmong ty (owning_parts p t) → IsSolid p (part_type ty) × (is_undroppable_part q (moved_ty m ty) ≡ false) × (part_type (moved_ty m ty) ≡ m.types (part_type ty)) × IsFree p (part_type ty)
     part_of t free ty i =
         let h = part_is_free p t free ty i in
         let s = part_solid ty (owning_among (map (λ d. d.ty) (fields_of p t) ++ flat_map (λ c. c.payload) (cases_of p t)) ty i) h.0 in
         (s.0, s.1, s.2, h.1)
 
-    fast_free : (t : ℕ) → IsSolid p t → IsFree p t → list_any (is_fast q) (owning_parts q (m.types t)) ≡ false
-    fast_free t solid free = ap (list_any (is_fast q)) (owned_move t solid) ∙ none_of (is_fast q) (moved_ty m) (owning_parts p t) (λ ty i. (part_of t free ty i).1)
+    fast_free : (t : ℕ) → IsSolid p t → IsFree p t → list_any (is_undroppable_part q) (owning_parts q (m.types t)) ≡ false
+    fast_free t solid free = ap (list_any (is_undroppable_part q)) (owned_move t solid) ∙ none_of (is_undroppable_part q) (moved_ty m) (owning_parts p t) (λ ty i. (part_of t free ty i).1)
 
-    free_moves : (n t : ℕ) → IsSolid p t → IsFree p t → holds_fast q n (m.types t) ≡ false
+    free_moves : (n t : ℕ) → IsSolid p t → IsFree p t → holds_undroppable q n (m.types t) ≡ false
     free_moves zero t solid free = fast_free t solid free
     free_moves (suc n) t solid free =
         ap₂ (λ x y. x || y) (fast_free t solid free)
-        (ap (list_any (λ ty. holds_fast q n (part_type ty))) (owned_move t solid) ∙
-        none_of (λ ty. holds_fast q n (part_type ty)) (moved_ty m) (owning_parts p t)
-        (λ ty i. let h = part_of t free ty i in ap (holds_fast q n) h.2 ∙ free_moves n (part_type ty) h.0 h.3))
+        (ap (list_any (λ ty. holds_undroppable q n (part_type ty))) (owned_move t solid) ∙
+        none_of (λ ty. holds_undroppable q n (part_type ty)) (moved_ty m) (owning_parts p t)
+        (λ ty i. let h = part_of t free ty i in ap (holds_undroppable q n) h.2 ∙ free_moves n (part_type ty) h.0 h.3))
 
     pub still_drops : (t : ℕ) → is_droppable_struct p t ≡ true → is_droppable_struct q (m.types t) ≡ true
     still_drops t e =
-        let both = and_both (is_struct (decl_of p t)) (not (holds_fast p (length p.types) t)) e in
+        let both = and_both (is_struct (decl_of p t)) (not (holds_undroppable p (length p.types) t)) e in
         let s = struct_there p t both.0 in
-        ap₂ (λ x y. is_struct x && not y) (keeps.structs t s.decl s.is) (free_moves (length q.types) t (inl s) (record { is = not_true (holds_fast p (length p.types) t) both.1 }))
+        ap₂ (λ x y. is_struct x && not y) (keeps.structs t s.decl s.is) (free_moves (length q.types) t (inl s) (record { is = not_true (holds_undroppable p (length p.types) t) both.1 }))
 
     pub still_drops_value : (ty : Ty) → is_droppable p ty ≡ true → is_droppable q (moved_ty m ty) ≡ true
     still_drops_value (owning S t args) e =
         let both = and_both (is_droppable_struct p t) (lies_within S (release_set p t)) e in
-        let s = struct_there p t (and_both (is_struct (decl_of p t)) (not (holds_fast p (length p.types) t)) both.0).0 in
+        let s = struct_there p t (and_both (is_struct (decl_of p t)) (not (holds_undroppable p (length p.types) t)) both.0).0 in
         ap₂ (λ x y. x && y) (still_drops t both.0) (ap (lies_within S) (same_release m p q keeps t s) ∙ both.1)
     still_drops_value (owning_variant t args) e =
-        let both = and_both (is_variant (decl_of p t) && not (is_keyed p t)) (not (holds_fast p (length p.types) t)) e in
+        let both = and_both (is_variant (decl_of p t) && not (is_keyed p t)) (not (holds_undroppable p (length p.types) t)) e in
         let front = and_both (is_variant (decl_of p t)) (not (is_keyed p t)) both.0 in
         let s = variant_there p t front.0 in
         ap₂ (λ (x : Bool) y. x && not y)
         (ap₂ (λ x y. is_variant x && not y) (keeps.variants t s.decl s.is) (keyed_there t s ∙ not_true (is_keyed p t) front.1))
-        (free_moves (length q.types) t (inr s) (record { is = not_true (holds_fast p (length p.types) t) both.1 }))
+        (free_moves (length q.types) t (inr s) (record { is = not_true (holds_undroppable p (length p.types) t) both.1 }))
     still_drops_value int e = e
     still_drops_value bool e = e
     still_drops_value (tracked k t args) e = e

@@ -12,7 +12,8 @@ use Rattle.vlt_core.specs.KindedStatements.{tracked_broken, tracked_type, struct
 use Rattle.vlt_core.specs.KindedCalls.{target_alone_broken, gives_other_keys, argument_type, argument_broken_by, arguments_broken, call_broken, call_target_broken, new_result_broken, returned_broken, return_broken}
 use Rattle.vlt_core.specs.KindedBodies.{row_broken, form_rows, block_rows, stmts_rows, arms_rows, ids_following, ids_following_block, with_vars, with_focus, in_loop, in_focus, ends, body_rows, list_broken, focus_broken, first_ids}
 use Rattle.vlt_core.specs.declared.rules.TheConstants as rule
-use Rattle.vlt_core_laws.proofs.Unbroken.{EachEmpty, filled_not_empty, some_not_none, some_same, left_empty, right_empty, unless_holds, each_left, each_right}
+use Rattle.vlt_core_laws.proofs.Unbroken.{filled_not_empty, some_not_none, some_same, left_empty, right_empty, unless_holds, each_left, each_right}
+use Rattle.vlt_core_laws.specs.Unbroken.{EachEmpty}
 use Rattle.vlt_core_laws.proofs.Headed.{each_at}
 use Rattle.vlt_link_laws.specs.CoreMoves.Knows.{IsType, IsStruct, IsVariant, IsFunction, OfReference, OfVariant, KnowsObject, KnowsExpr, KnowsOperand, KnowsOperands, KnowsSimple, KnowsReturned, KnowsForm, KnowsBlock, KnowsStmts, KnowsArms, KnowsBody}
 use Rattle.vlt_link_laws.proofs.OfCoreMoves.Drops.{struct_there, variant_there}

@@ -5,7 +5,8 @@ use Rattle.vlt_core.specs.Core.{Func, Program}
 use Rattle.vlt_core.specs.KindedHeads.{type_broken, listed_broken, head_broken}
 use Rattle.vlt_core.specs.KindedBodies.{end_broken}
 use Rattle.vlt_core.specs.Kinded.{function_rows}
-use Rattle.vlt_core_laws.proofs.Unbroken.{EachEmpty, left_empty, right_empty}
+use Rattle.vlt_core_laws.proofs.Unbroken.{left_empty, right_empty}
+use Rattle.vlt_core_laws.specs.Unbroken.{EachEmpty}
 use Rattle.vlt_link_laws.specs.CoreMoves.Knows.{KnowsBody}
 use Rattle.vlt_link_laws.proofs.OfCoreMoves.Knowing.{knows_body}
 

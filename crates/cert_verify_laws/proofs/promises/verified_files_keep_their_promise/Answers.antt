@@ -1,7 +1,8 @@
 use Rattle.std.proofs.Common.{Some, ◌∙◌, subst}
 use Rattle.cert_format.specs.Certificate.{FitsCertificate}
 use Rattle.cert_fit_laws.specs.Annotation.{IsVerified}
-use Rattle.c_lower_accepted.specs.Accepted.{IsAcceptedProgram, RunsAlike, IsDefined}
+use Rattle.c_lower_accepted.specs.Accepted.{IsAcceptedProgram}
+use Rattle.c_lower_accepted.specs.Promise.{RunsAlike, IsDefined}
 use Rattle.cert_verify_laws.proofs.promises.verified_files_keep_their_promise.Goals as goal
 
 pub returns : goal.returns
