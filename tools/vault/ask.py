@@ -1,0 +1,73 @@
+"""Questions to the programs: what `vaultc explain` or `vaultq paths` reports of a text, and what is held at each of its points."""
+from __future__ import annotations
+
+import os
+from dataclasses import dataclass
+from typing import List, Optional
+
+from . import paths, programs
+from .held import Table, read_tables
+from .report import KeyFault, Report, read_reports
+
+STANDARD_INPUT = "/dev/stdin"
+
+
+@dataclass(frozen=True)
+class Reply:
+    """What came of a question: the status, the lines, and what they report."""
+
+    status: int
+    lines: List[str]
+    reports: List[Report]
+
+
+@dataclass(frozen=True)
+class Asker:
+    """The programs that are asked: `vaultc`, and `vaultq` if there is one."""
+
+    vaultc: programs.Program
+    vaultq: Optional[programs.Program]
+
+    def faults(self, name: str, text: Optional[bytes] = None) -> Reply:
+        """All faults of a file with their paths if there is a `vaultq`, else the first one. A text that is given is asked of in the
+        place of the file."""
+        if self.vaultq:
+            return ask(self.vaultq, "paths", name, text)
+        return ask(self.vaultc, "explain", name, text)
+
+    def first(self, name: str, text: Optional[bytes] = None) -> Reply:
+        """The first fault of a file, without its paths."""
+        return ask(self.vaultc, "check", name, text)
+
+    def tables(self, name: str, text: Optional[bytes] = None) -> Optional[List[Table]]:
+        """What is held at each point of a file; None if there is no `vaultq`."""
+        return read_tables(ask(self.vaultq, "keys", name, text).lines) if self.vaultq else None
+
+
+def ask_words(program: programs.Program, words: List[str], text: Optional[bytes] = None) -> Reply:
+    """What a program says to these words."""
+    answer = program.ask(words, input=text)
+    return Reply(answer.status, answer.lines, read_reports(answer.lines))
+
+
+def ask(program: programs.Program, command: str, name: str, text: Optional[bytes] = None) -> Reply:
+    """What a program says of a file, or of a text in the place of the file."""
+    return ask_words(program, [command, name if text is None else STANDARD_INPUT], text)
+
+
+def has_questions() -> bool:
+    """Whether there is a `vaultq` to take. One that the variable VAULTC stands beside isn't compiled, since that is for tests."""
+    if os.environ.get("VAULTQ") or programs.find("vaultq"):
+        return True
+    return (paths.TOP / "crates" / "vaultq").is_dir() and not os.environ.get("VAULTC")
+
+
+def take() -> Asker:
+    """The programs that vault takes."""
+    names = ["vaultc", "vaultq"] if has_questions() else ["vaultc"]
+    found = programs.take_all(names)
+    return Asker(found["vaultc"], found.get("vaultq"))
+
+
+def key_faults(reply: Reply) -> List[KeyFault]:
+    return [report for report in reply.reports if isinstance(report, KeyFault)]

@@ -1,0 +1,1 @@
+"""Bindings of emitted programs, made of their certificates: typed hosts, and C libraries."""

@@ -1,0 +1,258 @@
+"""The host's side of a program: a prototype for each external, whose result has just the answers that keep the clause, and the glue to the runtime.
+
+An answer's numbers have the order that docs/LANGUAGE.md gives them: a state for each entry that is held after the call in one of several states, then
+the result."""
+from __future__ import annotations
+
+from dataclasses import dataclass
+from typing import List, Tuple
+
+from .certificate import BOUND, TAKEN, Case, Certificate, Entry, FunctionRow, Shape, TypeRow, bits
+from .clauses import clause_text, states_text
+from .naming import Scope, c_name
+
+PLAIN = {"int": "long long", "bool": "bool", "void": "void"}
+
+
+@dataclass(frozen=True)
+class Choice:
+    """A state that the host has to choose: the name of the parameter that it comes by, the type whose state it is, and the states that fit."""
+
+    name: str
+    type: int
+    states: int
+
+
+class Host:
+    """Writes the two files of a program's host."""
+
+    def __init__(self, base: str, certificate: Certificate) -> None:
+        self.base = base
+        self.certificate = certificate
+
+    # ---- names and types
+
+    def named(self, name: str) -> str:
+        return c_name(f"{self.base}_{name}")
+
+    def member(self, of: str, name: str) -> str:
+        """The name of a state of a set, or of a case of a variant."""
+        return c_name(f"{self.base}_{of}_{name}")
+
+    def type_of(self, shape: Shape) -> str:
+        """The C type of a value."""
+        if shape.kind in PLAIN:
+            return PLAIN[shape.kind]
+        name = self.named(self.certificate.types[shape.type].name) if shape.type >= 0 else self.named("object")
+        return f"struct {name}" + ("" if shape.kind in ("var", "ownvar") else " *")
+
+    def declared(self, shape: Shape, name: str) -> str:
+        """A declaration of a name of this type."""
+        kind = self.type_of(shape)
+        return kind + ("" if kind.endswith("*") else " ") + name
+
+    def is_choice(self, type_number: int, mask: int) -> bool:
+        return len(bits(self.certificate.mask(type_number, mask))) > 1
+
+    def choices(self, function: FunctionRow, scope: Scope) -> List[Choice]:
+        """The states that an answer of an external has before its result."""
+        found = []
+        for entry in function.clause:
+            name, kind = function.keys[entry.key]
+            if entry.mode not in (TAKEN, BOUND) and self.is_choice(kind, entry.after):
+                found.append(Choice(scope.add(f"state_of_{name or 'object'}"), kind, entry.after))
+        if function.result.kind == "own" and self.is_choice(function.result.type, function.result.states):
+            found.append(Choice(scope.add("state_of_result"), function.result.type, function.result.states))
+        return found
+
+    def state_type(self, type_number: int) -> str:
+        """The enum of a type's states; a number where the type isn't known."""
+        number = self.certificate.types[type_number].state_set if type_number >= 0 else -1
+        return f"enum {self.named(self.certificate.sets[number][0])}" if number >= 0 else "int"
+
+    # ---- the header
+
+    def header(self) -> str:
+        """NAME_host.h."""
+        guard = f"{self.base.upper()}_HOST_H"
+        parts = [
+            f"/* The externals of {self.base}, which its host defines. Written by `vault bind host`; the program's clauses stand beside them. */\n",
+            f"#ifndef {guard}\n#define {guard}\n\n#include <stdbool.h>\n",
+            '#ifdef __cplusplus\nextern "C" {\n#endif\n',
+            f"/* Called once, before the program begins. */\nvoid {self.base}_host_begin(void);\n",
+            *self.state_enums(),
+            *self.objects(),
+            *self.variants(),
+            *(self.prototype(function) for function in self.certificate.externals),
+            "#ifdef __cplusplus\n}\n#endif\n\n#endif\n",
+        ]
+        return "\n".join(parts)
+
+    def state_enums(self) -> List[str]:
+        found = []
+        for name, states in self.certificate.sets:
+            members = ", ".join(self.member(name, state) for state in states)
+            found.append(f"enum {self.named(name)} {{ {members} }};\n")
+        return found
+
+    def objects(self) -> List[str]:
+        """What the host has for objects: it declares these structs itself."""
+        found = []
+        for kind in self.certificate.types:
+            if kind.kind != "variant":
+                found.append(f"/* What the host has for a {kind.name}; it declares the struct. */\nstruct {self.named(kind.name)};\n")
+        return found
+
+    def answered(self) -> List[TypeRow]:
+        """The variants that externals give or take."""
+        shapes = [shape for it in self.certificate.externals for shape in (it.result, *(one for _, one in it.parameters))]
+        numbers = dict.fromkeys(shape.type for shape in shapes if shape.kind in ("var", "ownvar"))
+        return [self.certificate.types[number] for number in numbers]
+
+    def variants(self) -> List[str]:
+        return [self.variant(kind) for kind in self.answered()]
+
+    def variant(self, kind: TypeRow) -> str:
+        """A variant: which case it is, and what each case carries."""
+        name = self.named(kind.name)
+        lines = [f"struct {name} {{", f"    enum {{ {', '.join(self.member(kind.name, case.name) for case in kind.cases)} }} which;"]
+        for case in kind.cases:
+            members = self.members(kind, case)
+            if members:
+                lines.append("    struct {")
+                lines += [f"        {declared};{note}" for _, declared, note in members]
+                lines.append(f"    }} {c_name(case.name)};")
+        return "\n".join([*lines, "};\n"])
+
+    def members(self, kind: TypeRow, case: Case) -> List[Tuple[str, str, str]]:
+        """The members of a case: names, declarations and comments. States of keys come first, then payloads, an object before its state."""
+        found = []
+        for number, (key, states) in enumerate(case.keys):
+            type_number = kind.header[key]
+            if self.is_choice(type_number, states):
+                name = f"state_{number}"
+                found.append((name, f"{self.state_type(type_number)} {name}", self.fitting(type_number, states)))
+        for number, shape in enumerate(case.payload):
+            name = f"value_{number}"
+            found.append((name, self.declared(shape, name), ""))
+            if shape.kind == "own" and self.is_choice(shape.type, shape.states):
+                state = f"state_of_value_{number}"
+                found.append((state, f"{self.state_type(shape.type)} {state}", self.fitting(shape.type, shape.states)))
+        return found
+
+    def fitting(self, type_number: int, mask: int) -> str:
+        """A comment with the states that fit, if not all do: another one ends the run as a bad answer."""
+        text = states_text(self.certificate, type_number, mask)
+        return f" /* one of {text} */" if text else ""
+
+    def prototype(self, function: FunctionRow) -> str:
+        """The prototype of an external, after its clause."""
+        scope = Scope()
+        parameters = [self.declared(shape, scope.add(name)) for name, shape in function.parameters]
+        choices = self.choices(function, scope)
+        parameters += [f"{self.state_type(it.type)} *{it.name}" for it in choices]
+        notes = [f"{it.name}: one of {states_text(self.certificate, it.type, it.states)}" for it in choices if it.states >= 0]
+        if function.result.kind in ("key", "own"):
+            notes.append("NULL: there is no answer, and the run ends")
+        note = "".join(f"; {it}" for it in notes)
+        listed = ", ".join(parameters) or "void"
+        return f"/* {clause_text(self.certificate, function)}{note} */\n{self.declared(function.result, self.function_name(function))}({listed});\n"
+
+    def function_name(self, function: FunctionRow) -> str:
+        return c_name(f"{self.base}_host_{function.name}", [f"{self.base}_host_begin"])
+
+    # ---- the glue
+
+    def glue(self) -> str:
+        """NAME_host.c."""
+        externals = self.certificate.externals
+        rows = [f'    {{"{it.name}", carry_out_{it.name}}},' for it in externals] or ["    {NULL, NULL},"]
+        parts = [
+            f'#include "{self.base}_host.h"\n\n#include "vault_bind.h"\n',
+            *(self.carrier(function) for function in externals),
+            "const struct vault_external vault_externals[] = {",
+            *rows,
+            "};\n",
+            f"const int vault_external_count = {len(externals)};\n",
+            f"void vault_host_start(void)\n{{\n    {self.base}_host_begin();\n}}\n",
+        ]
+        return "\n".join(parts)
+
+    def carrier(self, function: FunctionRow) -> str:
+        """The function that carries out a call of an external, and gives the numbers of its answer."""
+        lines = [f"static bool carry_out_{function.name}(const struct vault_call *call)", "{"]
+        choices = self.choices(function, Scope())
+        for it in choices:
+            first = bits(self.certificate.mask(it.type, it.states))[0]
+            lines.append(f"    {self.state_type(it.type)} {it.name} = ({self.state_type(it.type)}) {first};")
+        arguments = [self.argument(number, shape) for number, (_, shape) in enumerate(function.parameters)] + [f"&{it.name}" for it in choices]
+        call = f"{self.function_name(function)}({', '.join(arguments)})"
+        if function.result.kind == "void":
+            lines.append(f"    {call};")
+        else:
+            lines.append(f"    {self.declared(function.result, 'result')} = {call};")
+        lines += ["    (void) call;"] + [f"    {line}" for line in self.forgets(function)]
+        lines += [f"    vault_answer({it.name});" for it in choices if it.name != "state_of_result"]
+        lines += [f"    {line}" for line in self.result_lines(function)]
+        return "\n".join([*lines, "    return true;", "}\n"])
+
+    def argument(self, number: int, shape: Shape) -> str:
+        if shape.kind == "int":
+            return f"call->arguments[{number}].number"
+        if shape.kind == "bool":
+            return f"call->arguments[{number}].number != 0"
+        return f"*vault_thing(call->arguments[{number}].number)"
+
+    def result_lines(self, function: FunctionRow) -> List[str]:
+        """What an answer says of the result."""
+        result = function.result
+        if result.kind == "void":
+            return []
+        if result.kind in ("int", "bool"):
+            return ["vault_answer(result);"]
+        if result.kind in ("key", "own"):
+            lines = ["if (result == NULL) {", "    return false;", "}", "*vault_thing(call->next_object) = result;"]
+            is_chosen = result.kind == "own" and self.is_choice(result.type, result.states)
+            return lines + (["vault_answer(state_of_result);"] if is_chosen else [])
+        kind = self.certificate.types[result.type]
+        lines = ["vault_answer(result.which);", "switch (result.which) {"]
+        for case in kind.cases:
+            lines.append(f"case {self.member(kind.name, case.name)}:")
+            lines += [f"    {line}" for line in self.case_lines(kind, case)]
+            lines.append("    break;")
+        return [*lines, "}"]
+
+    def case_lines(self, kind: TypeRow, case: Case) -> List[str]:
+        """What an answer says of a case: states of keys, then payloads. New objects are numbered in the order of the payloads."""
+        lines, made = [], 0
+        place = f"result.{c_name(case.name)}"
+        for name, _, _ in self.members(kind, case):
+            number = name.rpartition("_")[2]
+            shape = case.payload[int(number)] if name.startswith("value_") else None
+            if shape is not None and shape.kind == "own":
+                lines.append(f"*vault_thing(call->next_object + {made}) = {place}.{name};")
+                made += 1
+            else:
+                lines.append(f"vault_answer({place}.{name});")
+        return lines
+
+    def forgets(self, function: FunctionRow) -> List[str]:
+        """Lines that let go of objects which no answer can give back."""
+        lines = []
+        for number, (_, shape) in enumerate(function.parameters):
+            entry: Entry = function.entry(shape.key) if shape.kind == "key" else None  # type: ignore[assignment]
+            is_taken = shape.kind == "own" or entry is not None and entry.mode == TAKEN
+            if is_taken and not self.comes_back(shape.type):
+                lines.append(f"vault_gone(call->arguments[{number}].number);")
+        return lines
+
+    def comes_back(self, type_number: int) -> bool:
+        """Whether an answer can give back an object of a type: by a `+` entry, or by a key of a case."""
+        for function in self.certificate.externals:
+            if any(entry.mode == 2 and function.keys[entry.key][1] in (type_number, -1) for entry in function.clause):
+                return True
+            if function.result.kind in ("var", "ownvar"):
+                kind = self.certificate.types[function.result.type]
+                if any(kind.header[key] in (type_number, -1) for case in kind.cases for key, _ in case.keys):
+                    return True
+        return False

@@ -1,0 +1,1 @@
+"""Emitted C text that a debugger shows in the Vault text."""

@@ -1,0 +1,199 @@
+"""Drivers as libraries of C beside `vaultc host`: random lists of calls, carried out by both."""
+from __future__ import annotations
+
+import random
+import subprocess
+from dataclasses import dataclass
+from pathlib import Path
+from typing import List, Tuple
+
+from vault import paths, programs
+from vault.bind import certificate
+from vault.bind.certificate import Certificate, FunctionRow
+from vault.bind.library import Library
+from vault.commands import bind
+
+RUNTIME = paths.TOP / "runtime"
+FLAGS = ["-std=c99", "-Wall", "-Wextra", "-pedantic", "-Werror"]
+
+HARNESS = """\
+#define _GNU_SOURCE
+#include "{base}.h"
+
+#include <stdio.h>
+#include <stdlib.h>
+#include <string.h>
+
+#include "vault_library.h"
+
+enum {{ MOST_HELD = 4096, LONGEST = 4096 }};
+
+/* What is held, by the numbers of the objects. */
+static unsigned long long handles[MOST_HELD];
+
+static unsigned long long handle_of(const char *word)
+{{
+    long long number = *word == '#' ? atoll(word + 1) : 0;
+    return number > 0 && number < MOST_HELD ? handles[number] : 0;
+}}
+
+/* The number of a new object, which is the last one that was made in the call. */
+static long long number_of(unsigned long long handle, int type)
+{{
+    struct vault_object *object = vault_library_object(handle, type, ~0u);
+    long long number = object->block->number;
+    handles[number] = handle;
+    return number;
+}}
+
+int main(int argc, char **argv)
+{{
+    static char line[LONGEST];
+    FILE *calls = fopen(argv[1], "r");
+    FILE *out = stdout;
+    (void) argc;
+    {base}_begin();
+    for (int position = 1; fgets(line, sizeof line, calls) != NULL; position++) {{
+        char *words[20];
+        int count = 0;
+        char *events = NULL;
+        size_t size = 0;
+        char shown[LONGEST] = "";
+        line[strcspn(line, "\\n")] = '\\0';
+        strcpy(shown, line);
+        for (char *word = strtok(line, " "); word != NULL; word = strtok(NULL, " ")) {{
+            words[count++] = word;
+        }}
+        const char *result = "";
+        char text[64] = "";
+        bool is_known = false;
+        bool came_back = false;
+        stdout = open_memstream(&events, &size);
+{calls}
+        fclose(stdout);
+        stdout = out;
+        (void) is_known;
+        if (!came_back && (!is_known || vault_library_enter(""))) {{
+            printf("call %d bad\\n", position);
+            return 11;
+        }}
+        printf("!%s\\n%s%s%s", shown, events, result, text);
+        if (!came_back) {{
+            printf("%s\\n", {base}_refused());
+            return 9;
+        }}
+    }}
+    return 0;
+}}
+"""
+
+
+@dataclass(frozen=True)
+class Driver:
+    """A driver: its heads, its source, and its compiled library."""
+
+    source: Path
+    heads: Certificate
+    program: Path
+
+    @property
+    def functions(self) -> List[FunctionRow]:
+        return [it for it in self.heads.functions if self.heads.is_entry_function(it)]
+
+
+def branch(base: str, library: Library, function: FunctionRow) -> str:
+    """The part of the harness that calls a function."""
+    count = len(function.parameters)
+    tests = [f'strcmp(words[0], "{function.name}") == 0', f"count == {count + 1}"]
+    words, setup = [], []
+    for number, (_, shape) in enumerate(function.parameters):
+        word = f"words[{number + 1}]"
+        if shape.kind == "key":
+            setup.append(f"{library.c_type(shape)} h{number} = {{handle_of({word})}};")
+            words.append(f"h{number}")
+        else:
+            tests.append(f"*{word} != '#'")
+            if shape.kind == "bool":
+                tests.append(f'(strcmp({word}, "0") == 0 || strcmp({word}, "1") == 0)')
+            words.append(f"atoll({word})" + (" != 0" if shape.kind == "bool" else ""))
+    told = ""
+    if function.result.kind == "key":
+        setup.append(f"{library.c_type(function.result)} made;")
+        words.append("&made")
+        told = f'snprintf(text, sizeof text, "= #%lld\\n", number_of(made.handle, {function.result.type}));'
+    elif function.result.kind != "void":
+        setup.append(f"{library.c_type(function.result)} given;")
+        words.append("&given")
+        told = 'snprintf(text, sizeof text, "= %lld\\n", (long long) given);'
+    name = library.head(function).split("(")[0].split()[-1]
+    lines = [f"if ({' && '.join(tests)}) {{", *setup, "is_known = true;", f"came_back = {name}({', '.join(words)});"]
+    lines.append(f"if (came_back) {{ {told} }}" if told else "")
+    return "\n".join(f"        {line}" for line in [*lines, "}"] if line)
+
+
+def build(source: Path, folder: Path, compiler: str, more: Tuple[str, ...] = ()) -> Driver:
+    """Emits, binds and compiles a driver with the harness."""
+    vaultc = programs.take("vaultc")
+    base = source.stem
+    text = folder / f"{base}.c"
+    text.write_text(vaultc.ask(["emit", str(source)]).output, encoding="utf-8")
+    heads = certificate.read(text)
+    for name, made in bind.files("library", base, text.name, heads).items():
+        (folder / name).write_text(made, encoding="utf-8")
+    library = Library(base, text.name, heads)
+    calls = "\n".join(branch(base, library, it) for it in heads.functions if heads.is_entry_function(it))
+    harness = folder / f"{base}_harness.c"
+    harness.write_text(HARNESS.format(base=base, calls=calls), encoding="utf-8")
+    program = folder / f"{base}_{compiler}"
+    files = [RUNTIME / name for name in ("vault_rt.c", "numbers.c", "replay.c", "vault_library.c")]
+    # the harness is of the tests, and says what it likes of the standard's library
+    subprocess.run([compiler, *FLAGS, *more, "-I", str(folder), "-I", str(RUNTIME), "-c", str(folder / f"{base}_lib.c"), "-o", str(folder / "lib.o")], check=True)
+    words = [compiler, "-std=gnu99", *more, "-I", str(folder), "-I", str(RUNTIME), str(harness), str(folder / "lib.o"), *map(str, files), "-o", str(program)]
+    subprocess.run(words, check=True)
+    return Driver(source, heads, program)
+
+
+def random_call(driver: Driver, chance: random.Random, made: int) -> str:
+    """A call: of a function that there is, mostly with arguments that fit."""
+    function = chance.choice(driver.functions)
+    words = [function.name]
+    for _, shape in function.parameters:
+        if shape.kind == "key" and chance.random() < 0.97:
+            words.append(f"#{chance.randint(1, max(made, 1))}")
+        elif shape.kind == "bool":
+            words.append(str(chance.randint(0, 1)))
+        else:
+            words.append(str(chance.choice((0, 1, -1, 7, 100, 9223372036854775807, chance.randint(-50, 50)))))
+    return " ".join(words)
+
+
+def random_list(driver: Driver, chance: random.Random) -> List[str]:
+    """A list of calls; the first makes an object."""
+    makers = [it for it in driver.functions if it.result.kind == "key"]
+    first = " ".join([makers[0].name, *("1" for _ in makers[0].parameters)])
+    calls = [first, first]
+    return calls + [random_call(driver, chance, len(calls)) for _ in range(chance.randint(1, 12))]
+
+
+def outcomes(driver: Driver, calls: List[str], answers: List[str], folder: Path) -> Tuple[str, str]:
+    """What `vaultc host` and the compiled driver write of a list of calls, without the line of what is held at the end."""
+    listed, given = folder / "calls", folder / "answers"
+    listed.write_text("".join(f"{it}\n" for it in calls), encoding="utf-8")
+    given.write_text("".join(f"{it}\n" for it in answers), encoding="utf-8")
+    answer = programs.take("vaultc").ask(["host", str(driver.source), str(listed), "--answers", str(given)])
+    host = "".join(f"{line}\n" for line in answer.lines if not line.startswith("held"))
+    done = subprocess.run([str(driver.program), str(listed)], env={"VAULT_ANSWERS": str(given), "ASAN_OPTIONS": "detect_leaks=0"}, stdout=subprocess.PIPE, universal_newlines=True)
+    return host, done.stdout
+
+
+def differences(driver: Driver, count: int, seed: int, folder: Path) -> List[Tuple[List[str], str, str]]:
+    """The lists of calls, of so many random ones, of which the two write different lines."""
+    chance = random.Random(seed)
+    found = []
+    for _ in range(count):
+        calls = random_list(driver, chance)
+        answers = [chance.choice(("5", "0", "-3", "", "9223372036854775807")) if chance.random() < 0.4 else "2" for _ in range(chance.randint(0, 8))]
+        host, compiled = outcomes(driver, calls, answers, folder)
+        if host != compiled:
+            found.append((calls, host, compiled))
+    return found

@@ -1,0 +1,147 @@
+"""The benchmark's cases are what they say of Vault, its adapters read what their tools write, and its scores follow the rules."""
+from __future__ import annotations
+
+import importlib
+import json
+import re
+import subprocess
+import sys
+import unittest
+
+from vault import layout, paths, programs
+from vault.errors import NoProgram
+
+BENCH = paths.TOP / "bench"
+sys.path.insert(0, str(BENCH))
+
+clang, cppcheck, gcc, rustc, sparse, splint = (
+    importlib.import_module(f"adapters.{name}") for name in ("clang", "cppcheck", "gcc", "rustc", "sparse", "splint")
+)
+messages, scoring = importlib.import_module("messages"), importlib.import_module("scoring")
+Diagnostic, ToolError, score = messages.Diagnostic, messages.ToolError, scoring.score
+
+CASES = sorted(file.parent for file in BENCH.glob("cases/*/case.json"))
+
+GCC = """\
+wrong.c: In function 'work':
+wrong.c:5:5: warning: leak of 's' [CWE-401] [-Wanalyzer-malloc-leak]
+wrong.c:3:23: note: (1) allocated here
+../../include/sensor.h:9:5: warning: dereference of NULL '0' [CWE-476] [-Wanalyzer-null-dereference]
+wrong.c:7:5: note: (2) here
+wrong.c:6:5: warning: unused variable 'x' [-Wunused-variable]
+"""
+
+SPLINT = """\
+wrong.c: (in function work)
+wrong.c:5:14: Fresh storage s not released before return
+  A memory leak has been detected. Storage allocated locally is not released
+  before the last reference to it is lost. (Use -mustfreefresh to inhibit
+  warning)
+   wrong.c:3:40: Fresh storage s created
+wrong.c:2:5: Function exported but not used outside wrong: work
+  A declaration is exported. (Use -exportlocal to inhibit warning)
+"""
+
+
+class Cases(unittest.TestCase):
+    def setUp(self) -> None:
+        try:
+            self.program = programs.take("vaultc")
+        except NoProgram as reason:
+            self.skipTest(reason.message)
+
+    def test_vault_says_what_each_case_says(self) -> None:
+        self.assertEqual(len(CASES), 45)
+        for case in CASES:
+            told = json.loads((case / "case.json").read_text(encoding="utf-8"))["vault"]
+            for side in ("wrong", "right"):
+                with self.subTest(f"{case.name}/{side}.v"):
+                    self.assertEqual(self.program.ask(["check", f"{side}.v"], folder=case).status, told[side])
+
+    def test_vault_texts_are_laid_out(self) -> None:
+        for file in sorted(BENCH.glob("cases/*/*.v")):
+            with self.subTest(file.relative_to(BENCH)):
+                text = file.read_text(encoding="utf-8")
+                self.assertEqual(layout.lay_out_with_comments(self.program, text).output, text)
+
+
+class Texts(unittest.TestCase):
+    def test_one_line_of_each_wrong_text_is_marked(self) -> None:
+        for file in sorted(BENCH.glob("cases/*/wrong.*")):
+            with self.subTest(file.relative_to(BENCH)):
+                self.assertEqual(len(re.findall(r"(?m)(?:// fault|/\* fault \*/)$", file.read_text(encoding="utf-8"))), 1)
+
+    def test_each_wrong_text_has_a_right_one(self) -> None:
+        for file in sorted(BENCH.glob("cases/*/wrong.*")):
+            self.assertTrue(file.with_name("right" + file.suffix).is_file(), file)
+
+    def test_a_case_without_a_text_in_c_says_why(self) -> None:
+        for case in CASES:
+            told = json.loads((case / "case.json").read_text(encoding="utf-8"))
+            self.assertLessEqual(set(told.get("by_design", {})), {"c", "cpp", "rs"})
+            self.assertEqual((case / "wrong.c").is_file(), "c" not in told.get("not_applicable", {}), case.name)
+
+
+class Adapters(unittest.TestCase):
+    def test_gcc(self) -> None:
+        self.assertEqual(
+            gcc.diagnostics(GCC, "wrong.c", 0),
+            [
+                Diagnostic("-Wanalyzer-malloc-leak", "leak of 's' [CWE-401]", 5),
+                Diagnostic("-Wanalyzer-null-dereference", "dereference of NULL '0' [CWE-476]", 7),
+            ],
+        )
+
+    def test_a_text_that_is_not_compiled_is_an_error_of_the_tool(self) -> None:
+        with self.assertRaises(ToolError):
+            gcc.diagnostics("wrong.c:2:1: error: unknown type name 'x'\n", "wrong.c", 1)
+
+    def test_clang(self) -> None:
+        said = "wrong.c:5:12: warning: Potential leak of memory pointed to by 's' [unix.Malloc]\n1 warning generated.\n"
+        self.assertEqual(clang.diagnostics(said, "wrong.c", 0), [Diagnostic("unix.Malloc", "Potential leak of memory pointed to by 's'", 5)])
+
+    def test_cppcheck(self) -> None:
+        said = "wrong.c:5: warning: Resource leak: s [resourceLeak]\n"
+        self.assertEqual(cppcheck.diagnostics(said, "wrong.c", 0), [Diagnostic("resourceLeak", "Resource leak: s", 5)])
+
+    def test_sparse(self) -> None:
+        said = "wrong.c:2:5: warning: context imbalance in 'work' - wrong count at exit\n"
+        self.assertEqual([it.line for it in sparse.diagnostics(said, "wrong.c", 0)], [2])
+
+    def test_rustc(self) -> None:
+        said = "wrong.rs:8:10: error[E0382]: use of moved value: `s`\nerror: aborting due to 1 previous error\n"
+        self.assertEqual(rustc.diagnostics(said, "wrong.rs", 1), [Diagnostic("E0382", "use of moved value: `s`", 8)])
+        with self.assertRaises(ToolError):
+            rustc.diagnostics("wrong.rs:1:1: error[E0425]: cannot find value `x` in this scope\n", "wrong.rs", 1)
+
+    def test_splint(self) -> None:
+        self.assertEqual(splint.diagnostics(SPLINT, "wrong.c", 1), [Diagnostic("mustfreefresh", "Fresh storage s not released before return", 5)])
+
+
+class Scores(unittest.TestCase):
+    LEAK = Diagnostic("leak", "leak of s", 5)
+
+    def test_what_only_the_wrong_text_has_is_found(self) -> None:
+        self.assertEqual(score([self.LEAK], [], 6).mark, "F")
+        self.assertTrue(score([self.LEAK], [], 6).is_place_right)
+        self.assertFalse(score([self.LEAK], [], 7).is_place_right)
+
+    def test_what_the_right_text_has_too_is_a_false_alarm(self) -> None:
+        self.assertEqual(score([self.LEAK], [Diagnostic("leak", "leak of s", 9)], 5).mark, "-!")
+        self.assertEqual(score([self.LEAK, self.LEAK], [self.LEAK], 5).mark, "F!")
+
+    def test_silence_is_not_found(self) -> None:
+        self.assertEqual(score([], [], 5).mark, "-")
+
+
+class Words(unittest.TestCase):
+    def test_an_adapter_or_a_case_that_is_not_there_is_an_error(self) -> None:
+        for words in (["--tool", "nothing"], ["--case", "99"]):
+            with self.subTest(words):
+                ran = subprocess.run([str(BENCH / "run"), *words], stdout=subprocess.PIPE, stderr=subprocess.PIPE, universal_newlines=True)
+                self.assertEqual((ran.returncode, ran.stdout), (2, ""))
+                self.assertIn(f"'{words[1]}'; there are ", ran.stderr)
+
+
+if __name__ == "__main__":
+    unittest.main()

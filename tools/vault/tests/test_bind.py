@@ -1,0 +1,199 @@
+"""Bindings: what is written compiles without a warning, and does what the proved machine does."""
+from __future__ import annotations
+
+import contextlib
+import errno
+import io
+import shutil
+import subprocess
+import tempfile
+import unittest
+from pathlib import Path
+from typing import List
+
+from vault import cli, paths, programs
+from vault.bind import certificate
+from vault.bind.naming import Scope, base_name, c_name
+from vault.commands import bind
+from vault.errors import Problem
+from vault.tests import drivers_compiled as drivers
+
+EXAMPLES = paths.TOP / "examples"
+RUNTIME = paths.TOP / "runtime"
+LIB = paths.TOP / "lib"
+SANITIZE = ("-fsanitize=address,undefined", "-fno-sanitize-recover=all", "-g")
+LISTS = 25
+
+
+def compilers() -> List[str]:
+    return [name for name in ("gcc", "clang") if shutil.which(name)]
+
+
+class Bindings(unittest.TestCase):
+    def setUp(self) -> None:
+        if not compilers():
+            self.skipTest("there is no C compiler")
+        folder = tempfile.TemporaryDirectory()
+        self.addCleanup(folder.cleanup)
+        self.folder = Path(folder.name)
+
+    def emit(self, source: Path) -> Path:
+        text = self.folder / f"{source.stem}.c"
+        text.write_text(programs.take("vaultc").ask(["emit", str(source)]).output, encoding="utf-8")
+        return text
+
+    def vault(self, *words: str) -> int:
+        with contextlib.redirect_stdout(io.StringIO()) as said:
+            status = cli.dispatch(list(words))
+        self.said = said.getvalue()
+        return status
+
+    def test_hosts_and_libraries_of_all_examples_compile(self) -> None:
+        for source in sorted(EXAMPLES.glob("*.v")):
+            if programs.take("vaultc").ask(["check", str(source)]).status == 0:
+                with self.subTest(source.name):
+                    self.compile_bindings(self.emit(source))
+
+    def compile_bindings(self, text: Path) -> None:
+        for side, name in (("host", f"{text.stem}_host.c"), ("library", f"{text.stem}_lib.c")):
+            self.assertEqual(self.vault("bind", side, str(text), "--to", str(self.folder)), 0)
+            for compiler in compilers():
+                words = [compiler, *drivers.FLAGS, "-I", str(self.folder), "-I", str(RUNTIME), "-fsyntax-only", str(self.folder / name)]
+                subprocess.run(words, check=True)
+
+    def test_headers_are_read_by_cpp(self) -> None:
+        if shutil.which("g++") is None:
+            self.skipTest("there is no g++")
+        text = self.emit(EXAMPLES / "device.v")
+        self.compile_bindings(text)
+        both = self.folder / "both.cpp"
+        both.write_text('#include "device.h"\n#include "device_host.h"\nint main() { device_begin(); return 0; }\n')
+        subprocess.run(["g++", "-Wall", "-Wextra", "-pedantic", "-fsyntax-only", "-I", str(self.folder), str(both)], check=True)
+
+    def test_a_file_that_is_not_verified_is_refused(self) -> None:
+        text = self.emit(EXAMPLES / "device.v")
+        text.write_text(text.read_text().replace("p0 -> n [ 1 ] = 0", "p0 -> n [ 1 ] = 1"))
+        self.assertEqual(self.vault("bind", "library", str(text), "--to", str(self.folder / "none")), 12)
+        self.assertIn("refused 5", self.said)
+        self.assertFalse((self.folder / "none").exists())
+
+    def test_a_file_that_is_not_there_is_told(self) -> None:
+        with self.assertRaises(Problem) as told:
+            self.vault("bind", "host", "nowhere.c")
+        self.assertEqual((told.exception.status, told.exception.message), (2, "nowhere.c: the file can't be read: there is no file of this name"))
+
+    def test_libraries_do_what_the_host_command_does(self) -> None:
+        for source in (EXAMPLES / "device.v", EXAMPLES / "tutorial" / "10_driver.v", Path(__file__).parent / "drivers" / "pump.v"):
+            name = self.folder / f"d_{source.name}"
+            shutil.copyfile(source, name)
+            for compiler in compilers():
+                with self.subTest(source.name, compiler=compiler):
+                    driver = drivers.build(name, self.folder, compiler, SANITIZE)
+                    self.assertEqual(drivers.differences(driver, LISTS, 59, self.folder), [])
+
+    def test_the_echo_service(self) -> None:
+        text = self.emit(EXAMPLES / "echo.v")
+        self.assertEqual(self.vault("bind", "host", str(text), "--to", str(self.folder)), 0)
+        client = self.folder / "client"
+        subprocess.run(["cc", "-O1", "-o", str(client), str(RUNTIME / "echo_client.c")], check=True)
+        files = [RUNTIME / name for name in ("vault_main.c", "vault_rt.c", "numbers.c", "vault_bind.c")]
+        files += [self.folder / "echo_host.c", EXAMPLES / "hosts" / "echo_host.c"]
+        for compiler in compilers():
+            with self.subTest(compiler):
+                service = self.folder / f"echo_{compiler}"
+                words = [compiler, *drivers.FLAGS, *SANITIZE, f'-DVAULT_PROGRAM="{text}"', "-I", str(self.folder), "-I", str(RUNTIME)]
+                subprocess.run([*words, *map(str, files), "-o", str(service)], check=True)
+                done = subprocess.run([str(client), str(service)], stdout=subprocess.PIPE, universal_newlines=True, timeout=60)
+                self.assertEqual(done.returncode, 0, done.stdout)
+
+    def test_the_file_copier(self) -> None:
+        source = self.folder / "copy.v"
+        source.write_text((LIB / "file.v").read_text() + (EXAMPLES / "hosts" / "copy.v").read_text())
+        text = self.emit(source)
+        self.assertEqual(self.vault("bind", "host", str(text), "--name", "lib", "--to", str(self.folder)), 0)
+        files = [RUNTIME / name for name in ("vault_main.c", "vault_rt.c", "numbers.c", "vault_bind.c")]
+        files += [self.folder / "lib_host.c", LIB / "common.c", LIB / "file.c"]
+        program = self.folder / "copy"
+        words = ["cc", "-std=gnu99", *drivers.FLAGS[1:], *SANITIZE, f'-DVAULT_PROGRAM="{text}"', "-I", str(self.folder), "-I", str(RUNTIME)]
+        subprocess.run([*words, *map(str, files), "-o", str(program)], check=True)
+        data = bytes(range(256)) * 40
+        (self.folder / "from").write_bytes(data)
+
+        def copied(*names: str) -> int:
+            return int(subprocess.run([str(program), *names], cwd=self.folder, stdout=subprocess.PIPE, check=True).stdout)
+
+        self.assertEqual(copied("from", "to"), 0)
+        self.assertEqual((self.folder / "to").read_bytes(), data)
+        self.assertEqual(copied("nothing", "to"), errno.ENOENT)
+        self.assertEqual(copied("from", "/dev/full"), errno.ENOSPC)
+        self.assertEqual(copied(".", "to"), errno.EISDIR)
+        self.assertEqual(copied("from"), errno.EINVAL)
+
+    def test_objects_that_cannot_come_back_are_freed(self) -> None:
+        source = self.folder / "packets.v"
+        source.write_text(PACKETS)
+        text = self.emit(source)
+        self.assertEqual(self.vault("bind", "host", str(text), "--to", str(self.folder)), 0)
+        host = self.folder / "outside.c"
+        host.write_text(OUTSIDE)
+        files = [RUNTIME / name for name in ("vault_main.c", "vault_rt.c", "numbers.c", "vault_bind.c")] + [self.folder / "packets_host.c", host]
+        words = ["cc", "-O1", "-DVAULT_REUSE", f'-DVAULT_PROGRAM="{text}"', "-I", str(self.folder), "-I", str(RUNTIME)]
+        subprocess.run([*words, *map(str, files), "-o", str(self.folder / "packets")], check=True)
+        measured = subprocess.run([str(self.folder / "packets")], stdout=subprocess.PIPE, universal_newlines=True, check=True)
+        kilobytes = int(measured.stdout.split()[-1])
+        self.assertLess(kilobytes, 1000)
+
+
+PACKETS = """\
+abstract packet;
+extern tracked(P) packet build(int n) [new P];
+extern void send(tracked(P) packet p) [-P];
+extern int memory();
+void main() {
+    int before = memory();
+    int i = 0;
+    while (i < 1000000) {
+        tracked(P) packet p = build(i);
+        send(p);
+        i = i + 1;
+    }
+    int after = memory();
+    print(after - before);
+}
+"""
+
+OUTSIDE = """\
+#include <malloc.h>
+#include <stdlib.h>
+#include "packets_host.h"
+struct packets_packet { long long n; };
+void packets_host_begin(void) {}
+struct packets_packet *packets_host_build(long long n)
+{
+    struct packets_packet *made = malloc(sizeof *made);
+    made->n = n;
+    return made;
+}
+void packets_host_send(struct packets_packet *p) { free(p); }
+long long packets_host_memory(void) { return (long long) mallinfo2().arena / 1024; }
+"""
+
+
+class Names(unittest.TestCase):
+    def test_keywords_and_clashes(self) -> None:
+        self.assertEqual(c_name("int"), "int_")
+        self.assertEqual(c_name("schlüssel"), "schlufcssel")
+        scope = Scope()
+        self.assertEqual([scope.add(name) for name in ("a", "a", "while", "while_")], ["a", "a_", "while_", "while__"])
+        self.assertEqual(base_name(Path("10-driver.c")), "v_10u2ddriver")
+
+    def test_states_below_a_bound(self) -> None:
+        rows = [["vault", 2], ["states", "level", ["low", "mid", "high"], [[0, 1], [1, 2]]], ["abstract", "cpu", 0]]
+        rows.append(["fn", "log", ["void"], 1, [[4, 0, 1, -1]], [["K", 0]], [["c", ["key", 0, 0, []]]], 0])
+        heads = certificate.certificate(rows)
+        self.assertEqual(heads.before(heads.functions[0], heads.functions[0].clause[0]), 0b011)
+        self.assertEqual(sorted(bind.files("host", "x", "x.c", heads)), ["x_host.c", "x_host.h"])
+
+
+if __name__ == "__main__":
+    unittest.main()

@@ -1,0 +1,72 @@
+"""Editors' files, by the editors that are installed."""
+from __future__ import annotations
+
+import json
+import os
+import shutil
+import subprocess
+import tempfile
+import unittest
+from pathlib import Path
+from typing import List
+
+from vault import paths, programs
+from vault.ask import take
+
+EDITORS = paths.TOP / "editors"
+SESSION = Path(__file__).parent / "editors" / "session.lua"
+
+
+class Neovim(unittest.TestCase):
+    def setUp(self) -> None:
+        if shutil.which("nvim") is None:
+            self.skipTest("nvim isn't installed")
+        programs.take("vaultc")
+        folder = tempfile.TemporaryDirectory()
+        self.addCleanup(folder.cleanup)
+        self.top = Path(folder.name)
+
+    def nvim(self, *words: str, **environment: str) -> None:
+        paths_of_run = f"set runtimepath+={EDITORS / 'vim'},{EDITORS / 'nvim'} | filetype plugin on | syntax on"
+        command = ["nvim", "--headless", "-u", "NONE", "-i", "NONE", "--cmd", paths_of_run]
+        command += ["--cmd", f"luafile {EDITORS / 'nvim/plugin/vault.lua'}", *words]
+        subprocess.run(command, env={**os.environ, **environment, "HOME": str(self.top)}, check=True, timeout=120)
+
+    def session(self, file: Path) -> List[str]:
+        seen = self.top / "seen"
+        self.nvim("-c", f"luafile {SESSION}", SEEN=str(seen), FILE=str(file), XDG_CACHE_HOME=str(paths.cache().parent))
+        return seen.read_text(encoding="utf-8").split("\n")
+
+    def test_a_fault_is_shown_and_cured(self) -> None:
+        file = self.top / "lock_kept.v"
+        shutil.copyfile(paths.TOP / "examples" / "lock_kept.v", file)
+        seen = self.session(file)
+        self.assertIn("filetype vault", seen)
+        self.assertTrue(any(line.startswith("error 15:9 ") for line in seen), seen)
+        self.assertIn("cure insert unlock(a); before this return", seen)
+        self.assertIn("errors left 0", seen)
+        self.assertIn("edits of the layout 0", seen)
+        if take().vaultq:
+            self.assertIn("hint 13 L@shut", seen)
+
+    def test_a_new_file_beside_vault_json_is_vaults(self) -> None:
+        (self.top / "vault.json").write_text("{}")
+        seen = self.top / "seen"
+        self.nvim(str(self.top / "new.v"), "-c", f"call writefile([&filetype], '{seen}')", "-c", "qa!")
+        self.assertEqual(seen.read_text(), "vault\n")
+
+
+class OtherEditors(unittest.TestCase):
+    def test_files_of_vs_code_are_json(self) -> None:
+        for file in [*EDITORS.glob("vscode/*.json"), *EDITORS.glob("vscode/syntaxes/*.json")]:
+            json.loads(file.read_text(encoding="utf-8"))
+
+    def test_emacs_reads_its_mode(self) -> None:
+        if shutil.which("emacs") is None:
+            self.skipTest("emacs isn't installed")
+        words = ["emacs", "--batch", "-L", str(EDITORS / "emacs"), "-l", "vault-mode", "--eval", "(with-temp-buffer (vault-mode))"]
+        subprocess.run(words, check=True)
+
+
+if __name__ == "__main__":
+    unittest.main()

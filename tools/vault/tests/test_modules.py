@@ -1,0 +1,69 @@
+"""Modules beside their interface: pictures at the places of the files."""
+from __future__ import annotations
+
+import tempfile
+import unittest
+from pathlib import Path
+from typing import Dict, List
+
+from vault.forms import text
+from vault.judge import Judged, Wishes
+from vault.modules import join, judge_module
+from vault.paths import TOP
+from vault.source import Source
+
+from .golden import WIDTH, GoldenCase, asker, folder
+
+INTERFACE = "examples/modules/interface.v"
+MODULES = {
+    "lacks_states.v": "struct disk {\n    int size;\n}\n",
+    "has_another_head.v": "void start(tracked(K) disk d) [K@on] {\n}\n",
+    "names_no_state.v": "extern void spin(tracked(K) disk d) [K@onn];\n",
+    "ends_too_early.v": "void f(int n) {\n",
+    "forgets_to_remove.v": "void f() {\n    tracked(K) disk d = make(1);\n    start(d);\n}\n",
+    "gives_a_disk.v": "extern tracked disk find();\n",
+}
+
+
+class Modules(GoldenCase):
+    def judge(self, files: Dict[str, str]) -> List[Judged]:
+        taken = asker()
+        with tempfile.TemporaryDirectory() as name:
+            where = Path(name)
+            (where / "interface.v").write_bytes((TOP / INTERFACE).read_bytes())
+            for file, written in files.items():
+                (where / file).write_text(written, encoding="utf-8")
+            with folder(where):
+                return [judge_module("interface.v", file, taken, Wishes(True)) for file in files]
+
+    def test_pictures(self) -> None:
+        found = self.judge(MODULES)
+        self.assert_golden("modules.txt", "".join(text.write(one.pictures, text.Style(WIDTH)) + "\n" for one in found))
+        self.assertEqual([one.status for one in found], [7, 7, 7, 6, 8, 7])
+
+    def test_a_good_module(self) -> None:
+        taken = asker()
+        with folder(TOP):
+            found = judge_module(INTERFACE, "examples/modules/disk.v", taken, Wishes())
+        self.assertEqual((found.status, found.functions), (0, 4))
+
+    def test_cures_change_the_module_alone(self) -> None:
+        found = self.judge({"forgets_to_remove.v": MODULES["forgets_to_remove.v"]})[0]
+        cure = found.pictures[0].cures[0]
+        self.assertTrue(cure.tested)
+        edit = cure.edits[0]
+        source = found.source.text
+        self.assertEqual(source[: edit.span.start] + edit.text + source[edit.span.end :], source[:-2] + "    remove(d);\n}\n")
+
+    def test_the_view_has_each_part_once(self) -> None:
+        view = join(Source.read(str(TOP / INTERFACE)), Source.read(str(TOP / "examples" / "modules" / "disk.v")))
+        names = [one.name.text for one in view.declarations.program.declarations]
+        self.assertEqual(names, ["power", "disk", "make", "start", "write", "remove", "main"])
+        for piece in view.pieces[:-1]:
+            length = piece.span.end - piece.span.start
+            self.assertEqual(view.source.text[piece.at : piece.at + length], piece.source.text[piece.span.start : piece.span.end])
+            self.assertEqual(view.origin(piece.at), (piece.source, piece.span.start))
+
+
+if __name__ == "__main__":
+    unittest.main()
