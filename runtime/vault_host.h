@@ -32,6 +32,9 @@ bool vault_host_ask(const struct vault_call *call);
  * The runtime ends the run where they don't keep the external's clause, and keeps account of the objects that are out. */
 bool vault_host_next(long long *number);
 
+/* Within a call: an object that the call hands over never comes back, so its memory is given back as it goes out. */
+void vault_host_forget(long long object);
+
 /* How a program ends: the statuses of docs/COMMANDS.md. */
 enum vault_status {
     VAULT_DONE = 0,
@@ -43,6 +46,10 @@ enum vault_status {
     VAULT_NO_ANSWER = 11,
     VAULT_UNDEFINED = 13
 };
+
+/* Called by vault_stop in place of ending the process, where it is set; it doesn't return. The line is empty where memory ran out. A library sets
+ * it, so that a call ends and not the process. */
+extern void (*vault_on_stop)(enum vault_status status, const char *line);
 
 /* Ends the run with this last line. */
 #if defined(__GNUC__)

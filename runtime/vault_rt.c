@@ -26,6 +26,7 @@ struct vr_body {
     vr_ref next;   /* of the same parent */
     vr_ref previous;
     long long out_since; /* with the host since this answer, from 1; 0 where it isn't */
+    bool is_forgotten;   /* the host never gives it back */
 #ifdef VAULT_CHECK
     long long number_count;
     long long reference_count;
@@ -66,6 +67,7 @@ static struct {
 
     enum talk talk;
     struct vault_call call;
+    vr_ref objects[VAULT_ARGUMENTS]; /* the call's arguments that are objects */
     long long taken; /* how many answers were */
 
     long long statement; /* the one that runs */
@@ -78,14 +80,30 @@ static int status_once_written(enum vault_status status)
     return fflush(stdout) == 0 && !ferror(stdout) ? (int) status : VAULT_NOT_WRITTEN;
 }
 
+void (*vault_on_stop)(enum vault_status status, const char *line);
+
 void vault_stop(enum vault_status status, const char *line, ...)
 {
+    char text[128];
     va_list arguments;
     va_start(arguments, line);
-    vprintf(line, arguments);
+    vsnprintf(text, sizeof text, line, arguments);
     va_end(arguments);
-    putchar('\n');
+    if (vault_on_stop != NULL) {
+        vault_on_stop(status, text);
+    }
+    if (*text != '\0') {
+        puts(text);
+    }
     exit(status_once_written(status));
+}
+
+#if defined(__GNUC__)
+__attribute__((noreturn))
+#endif
+static void stop_for_memory(void)
+{
+    vault_stop(VAULT_NO_MEMORY, "%s", "");
 }
 
 int vault_done(void)
@@ -186,7 +204,7 @@ static void *allocated(size_t size)
 {
     void *memory = malloc(size);
     if (memory == NULL) {
-        exit(status_once_written(VAULT_NO_MEMORY));
+        stop_for_memory();
     }
     return memory;
 }
@@ -225,6 +243,7 @@ static struct vr_body *new_body(size_t numbers, size_t references)
 #endif
     body->parent = body->child = body->next = body->previous = vr_null;
     body->out_since = 0;
+    body->is_forgotten = false;
     return body;
 }
 
@@ -235,7 +254,7 @@ vr_ref vr_new(long long numbers, long long references)
         vault_stop(VAULT_BUDGET, "budget heap");
     }
     if (numbers > MOST_CELLS || references > MOST_CELLS) {
-        exit(status_once_written(VAULT_NO_MEMORY));
+        stop_for_memory();
     }
     block = new_record();
     block->body = new_body((size_t) numbers, (size_t) references);
@@ -420,6 +439,7 @@ void vr_arg_p(vr_ref block)
 {
     VR_REQUIRE(8, block != vr_null);
     add_argument(true, block->number);
+    run.objects[run.call.count - 1] = block;
 }
 
 void vr_ask(void)
@@ -457,10 +477,23 @@ long long vr_pick(long long mask)
     return bit;
 }
 
+void vault_host_forget(long long object)
+{
+    for (int i = 0; i < run.call.count; i++) {
+        if (run.call.arguments[i].is_object && run.call.arguments[i].number == object && is_live(run.objects[i])) {
+            run.objects[i]->body->is_forgotten = true;
+        }
+    }
+}
+
 void vr_out(vr_ref block)
 {
     VR_REQUIRE(8, run.talk == READING && is_free(block));
-    block->body->out_since = run.taken;
+    if (block->body->is_forgotten) {
+        vr_release(block);
+    } else {
+        block->body->out_since = run.taken;
+    }
 }
 
 /* The block may be dead. */
