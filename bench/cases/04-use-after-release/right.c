@@ -1,0 +1,8 @@
+#include "sensor.h"
+int work(void) {
+    struct sensor *s = sensor_make(20);
+    s->last = 1;
+    report(s->last);
+    sensor_drop(s);
+    return 0;
+}

@@ -1,0 +1,8 @@
+#include "sensor.h"
+int work(void) {
+    struct sensor *s = sensor_make(20);
+    report(sensor_value(s)); /* fault */
+    sensor_off(s);
+    sensor_drop(s);
+    return 0;
+}

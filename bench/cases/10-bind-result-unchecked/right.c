@@ -1,0 +1,9 @@
+#include "socket.h"
+int work(void) {
+    struct sock *s = sock_make();
+    if (sock_bind(s, 80) == BOUND) {
+        sock_listen(s);
+    }
+    sock_close(s);
+    return 0;
+}

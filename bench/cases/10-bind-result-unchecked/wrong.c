@@ -1,0 +1,8 @@
+#include "socket.h"
+int work(void) {
+    struct sock *s = sock_make();
+    sock_bind(s, 80);
+    sock_listen(s); /* fault */
+    sock_close(s);
+    return 0;
+}

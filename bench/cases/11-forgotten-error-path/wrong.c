@@ -1,0 +1,11 @@
+#include "socket.h"
+int work(void) {
+    struct sock *s = sock_make();
+    if (sock_bind(s, 80) != BOUND) {
+        report(1);
+        return 1; /* fault */
+    }
+    sock_listen(s);
+    sock_close(s);
+    return 0;
+}

@@ -1,0 +1,12 @@
+struct Node {
+    value: i32,
+}
+struct Region {
+    nodes: Vec<Node>,
+}
+fn main() {
+    let r = Region { nodes: vec![Node { value: 7 }] };
+    let n = &r.nodes[0];
+    println!("{}", n.value);
+    drop(r);
+}

@@ -1,0 +1,8 @@
+#include "request.h"
+int work(void) {
+    struct request *q = request_take();
+    request_serve(q);
+    request_complete(q);
+    request_complete(q); /* fault */
+    return 0;
+}

@@ -1,0 +1,10 @@
+#include "request.h"
+int work(void) {
+    struct request *q = request_take();
+    request_serve(q);
+    if (ask() > 0) {
+        return 1; /* fault */
+    }
+    request_complete(q);
+    return 0;
+}

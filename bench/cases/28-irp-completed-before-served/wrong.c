@@ -1,0 +1,6 @@
+#include "request.h"
+int work(void) {
+    struct request *q = request_take();
+    request_complete(q); /* fault */
+    return 0;
+}

@@ -1,0 +1,8 @@
+#include "sensor.h"
+int work(void) {
+    struct sensor *s = sensor_make(20);
+    sensor_on(s);
+    report(sensor_value(s));
+    sensor_drop(s); /* fault */
+    return 0;
+}

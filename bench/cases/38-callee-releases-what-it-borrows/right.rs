@@ -1,0 +1,11 @@
+struct Sensor {
+    last: i32,
+}
+fn show(s: &Sensor) {
+    println!("{}", s.last);
+}
+fn main() {
+    let s = Sensor { last: 20 };
+    show(&s);
+    drop(s);
+}

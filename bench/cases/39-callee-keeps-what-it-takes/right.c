@@ -1,0 +1,12 @@
+#include "sensor.h"
+static void consume(/*@only@*/ struct sensor *s) TAKES(1);
+static void consume(/*@only@*/ struct sensor *s) TAKER {
+    ASSUME_OFF(s);
+    s->last = 1;
+    sensor_drop(s);
+}
+int work(void) {
+    struct sensor *s = sensor_make(20);
+    consume(s);
+    return 0;
+}

@@ -1,0 +1,12 @@
+#include "sensor.h"
+int work(void) {
+    struct sensor *s = sensor_make(20);
+    int n = ask();
+    if (n > 0) {
+        sensor_drop(s);
+    }
+    if (n <= 0) {
+        sensor_drop(s);
+    }
+    return 0;
+}
