@@ -5,13 +5,14 @@ use Rattle.vlt_core.specs.Core.{Tok, a_key, a_var, Func, Program}
 use Rattle.vlt_core.specs.Instances.{instance, IsOrigin, origins}
 use Rattle.vlt_core.specs.Bodies.{body_flow}
 use Rattle.vlt_core.specs.Derives.{start_map}
-use Rattle.vlt_core.specs.Faults.{Spot, IsNoLater, IsFaultIn}
+use Rattle.vlt_core.specs.Faults.{Spot, IsFaultIn}
 use Rattle.vlt_core.specs.View.{tok_of}
 use Rattle.vlt_core.specs.FaultView.{kind_of}
 use Rattle.vlt_faults.specs.declared.judge.blame.Blame.{Blame}
 use Rattle.vlt_faults.specs.declared.judge.InstanceBlame.{InstanceBlame}
 use Rattle.vlt_faults.specs.Judge.Blames.{spot_of}
 use Rattle.vlt_faults.specs.Judge.Overs.{IsFirstOver, AreBounds}
+use Rattle.vlt_faults.specs.Judge.Instances.{ToldBefore}
 use Rattle.vlt_faults.specs.Judge.Faulty.{AreFitIn}
 use Rattle.vlt_all_faults_laws.specs.Each.{Finding}
 use Rattle.vlt_all_faults_laws.specs.Listing.{IsPlace, IsListing}
@@ -36,11 +37,6 @@ pub record IsToldOfAt (p : Program) (f : Func) (t : Tok) (n : ℕ) (y : Instance
   pub first : IsFirstBlameOf p f t y.origin (Some y.blame)
   pub alone : (j : ℕ) (o : Option ℕ) → j < position → slice_get (origins p f) j ≡ Some o →
       IsFaultIn p (instance p f o) (spot_of y.blame) t → ⊥
-
--- no later than the spot for the token
-abbrev pub ToldBefore : Option InstanceBlame → Spot → Tok → Type 0
-ToldBefore None q u = ⊥
-ToldBefore (Some y) q u = IsNoLater (spot_of y.blame) (tok_of y.blame.tok) q u
 
 -- This is the first of the token's faults in the first n instances; without one it has none in them.
 pub record IsJudgedTo (p : Program) (f : Func) (t : Tok) (n : ℕ) (x : Option InstanceBlame) : Type 0 where

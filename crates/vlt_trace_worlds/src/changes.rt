@@ -162,7 +162,8 @@ pub fn is_under(objects: &[Object], root: usize, n: usize) -> bool
 
 /// Which objects are the root or below it.
 fn all_under(alloc: Global, objects: &[Object], root: usize) -> Result<Vec<bool>, Halt>
-    ensures each { IfOk result (λ under. IsUnderEach (objects_view objects.now) (root ∷ []) under.items) }
+    ensures each { IfOk result (λ under.
+        IsUnderEach (objects_view objects.now) (root ∷ []) under.items) }
     ensures long { IfOk result (λ under. length under.items ≡ length objects.now) }
     ensures memory { IfErr result (λ halt. halt ≡ Halt.Memory) }
 {
@@ -187,7 +188,8 @@ fn may_go(p: &Program, o: &Object, under: bool) -> bool
 /// Whether all that are marked may be released.
 fn are_releasable(p: &Program, objects: &[Object], under: &[bool]) -> bool
     requires { length under.now ≡ length objects.now }
-    ensures { result ≡ list_all (may_go_in (program_of p.now)) (zip under.now (objects_view objects.now)) }
+    ensures { result ≡
+        list_all (may_go_in (program_of p.now)) (zip under.now (objects_view objects.now)) }
 {
     for n in 0..objects.len() {
         if !may_go(p, &objects[n], under[n]) {
@@ -217,7 +219,8 @@ fn gone_if(under: bool, owner: Owner) -> Owner
 fn go(p: &Program, n: usize, under: &Vec<bool>, objects: &mut [Object]) -> Result<(), Halt>
     requires each { IsUnderEach (objects_view objects.old) (n ∷ []) under.now.items }
     requires long { length under.now.items ≡ length objects.old }
-    ensures { Released (program_of p.now) n (objects_view objects.old) (objects_view objects.new) result }
+    ensures { Released (program_of p.now) n
+        (objects_view objects.old) (objects_view objects.new) result }
 {
     if are_releasable(p, objects, under) {
         set_gone(objects, under);
@@ -229,7 +232,8 @@ fn go(p: &Program, n: usize, under: &Vec<bool>, objects: &mut [Object]) -> Resul
 
 /// The object is released, with all below it.
 pub fn release(alloc: Global, p: &Program, n: usize, objects: &mut [Object]) -> Result<(), Halt>
-    ensures { Released (program_of p.now) n (objects_view objects.old) (objects_view objects.new) result }
+    ensures { Released (program_of p.now) n
+        (objects_view objects.old) (objects_view objects.new) result }
 {
     match all_under(alloc, objects, n) {
         Ok(under) => go(p, n, &under, objects),

@@ -86,7 +86,8 @@ pub fn number_in(a: &Value) -> Result<i64, Stop>
 }
 
 fn cell(cells: &[Value], i: u32) -> Option<&Value>
-    ensures { option_map value_view (option_copied result) ≡ slice_get (map value_view cells.now) i }
+    ensures { option_map value_view (option_copied result) ≡
+        slice_get (map value_view cells.now) i }
 {
     cells.get(i as usize)
 }
@@ -181,7 +182,8 @@ pub fn copy_value(alloc: Global, a: &Value) -> Result<Value, AllocError>
 
 /// A copy of a value that is there.
 pub fn copy_of(alloc: Global, a: Option<&Value>, reason: Reason) -> Result<Value, Halt>
-    ensures { Finds value_view result (or_fault (reason_view reason) (option_map value_view (option_copied a.entry))) }
+    ensures { Finds value_view result
+        (or_fault (reason_view reason) (option_map value_view (option_copied a.entry))) }
 {
     match a {
         None => Err(Halt::Ends(Stop::Fault(reason, None))),
