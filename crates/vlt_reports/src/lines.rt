@@ -67,7 +67,8 @@ pub fn fault_at(
     token: Tok,
     kind: FaultKind,
 ) -> Result<Vec<u8>, AllocError>
-    ensures { (text : List ℕ) (at : ℕ) → line ≡ line_of text at → column ≡ column_of text at →
+    ensures { (text : List ℕ) (at : ℕ) →
+        line ≡ line_of text at → column ≡ column_of text at →
         IfOk result (λ v. v.items ≡ fault_line text (program_of p.now) (func_of f.now) at
         (tok_of token) (kind_of kind)) }
 {

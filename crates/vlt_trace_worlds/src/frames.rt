@@ -67,7 +67,8 @@ pub fn is_fillable(at: &Running<'_>, v: VarId, frame: &Frame) -> bool
 /// A variable gets a value.
 #[tactic(auto, unfolding(vlt_meaning::specs::Step::fill, vlt_meaning::specs::Step::where_so))]
 pub fn fill(at: &Running<'_>, v: VarId, a: Value, frame: &mut Frame) -> Result<(), Halt>
-    ensures { (w : World) → Goes (fill (func_in at.now) v.0 (value_view a) (frame_view frame.old) w)
+    ensures { (w : World) →
+        Goes (fill (func_in at.now) v.0 (value_view a) (frame_view frame.old) w)
         result (frame_view frame.new) w }
 {
     if is_fillable(at, v, frame) {
