@@ -25,6 +25,7 @@ def renewed_pages(top: Path) -> Dict[str, str]:
         "docs/ADDING.md": places.with_minutes(top, read(top, "docs/ADDING.md"), gate),
         "docs/ARCHITECTURE.md": with_order(top, read(top, "docs/ARCHITECTURE.md")),
         "docs/PROMISES.md": believed.with_table(read(top, "docs/PROMISES.md"), believed.all_believed(top)),
+        "README.md": with_benchmark(read(top, "README.md"), read(top, "bench/README.md")),
     }
 
 
@@ -71,3 +72,28 @@ def with_order(top: Path, text: str) -> str:
         for (n, _), line in zip(movable, moved):
             lines[n] = line
     return re.sub(r"^All \d+, ", f"All {len(order)}, ", "\n".join(lines), flags=re.M)
+
+
+# ---- the benchmark on the first page
+
+COMPARED = {"vaultc": "vault", "gcc -fanalyzer": "gcc", "clang --analyze": "clang", "splint": "splint", "sparse -Wcontext": "sparse", "cppcheck": "cppcheck", "rustc": "rustc"}
+"""The columns of the benchmark that the first page shows, and their heads there."""
+
+
+def with_benchmark(text: str, benchmark: str) -> str:
+    """The first page with its table of tools, as the benchmark's page counts them. The table has the one head that begins with a pair of programs."""
+    head, *rows = [cells(line) for line in benchmark.partition("<!-- table -->")[2].split("\n") if line.startswith("| ")]
+    count = {cells_of[0]: dict(zip(head[1:], cells_of[1:])) for cells_of in rows}
+    found = [{name: int(count[name][tool]) for name in ("Cases that were run", "Faults found", "By design")} for tool in COMPARED]
+    told = [f"{it['Faults found'] + it['By design']} of {it['Cases that were run'] + it['By design']}" for it in found]
+    table = [
+        row(["Pairs of programs", *COMPARED.values()]),
+        "|---|" + "---|" * len(COMPARED),
+        row(["Faults found, or impossible by design", *told]),
+        row(["At the right line", *(count["Places right"][tool] for tool in COMPARED)]),
+        row(["False alarms", *(count["False alarms"][tool] for tool in COMPARED)]),
+    ]
+    lines = text.split("\n")
+    start = next(n for n, line in enumerate(lines) if line.startswith("| Pairs of programs |"))
+    end = next(n for n in range(start, len(lines)) if not lines[n].startswith("|"))
+    return "\n".join(lines[:start] + table + lines[end:])
