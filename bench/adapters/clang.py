@@ -16,7 +16,7 @@ RELEVANT = re.compile(r"^unix\.|^core\.NullDereference|-Wunused-result|-Wswitch"
 def command(text: Path, include: Path) -> List[str]:
     """How clang is called on a text."""
     config = ["-Xclang", "-analyzer-config", "-Xclang", "unix.DynamicMemoryModeling:Optimistic=true"]
-    return [PROGRAM, "--analyze", "--analyzer-output", "text", *config, "-fno-caret-diagnostics", f"-I{include}", str(text)]
+    return [PROGRAM, "--analyze", "--analyzer-output", "text", *config, "-fno-caret-diagnostics", "-fdiagnostics-parseable-fixits", f"-I{include}", str(text)]
 
 
 def diagnostics(output: str, name: str, status: int) -> List[Diagnostic]:

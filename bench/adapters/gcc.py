@@ -14,7 +14,7 @@ RELEVANT = re.compile("-Wanalyzer-|-Wunused-result|-Wswitch|-Wuse-after-free|-Wm
 
 def command(text: Path, include: Path) -> List[str]:
     """How gcc is called on a text."""
-    options = ["-fanalyzer", "-Wall", "-fdiagnostics-path-format=separate-events", "-fno-diagnostics-show-caret"]
+    options = ["-fanalyzer", "-Wall", "-fdiagnostics-path-format=separate-events", "-fno-diagnostics-show-caret", "-fdiagnostics-parseable-fixits"]
     return [PROGRAM, *options, f"-I{include}", "-c", "-o", "/dev/null", str(text)]
 
 

@@ -12,6 +12,9 @@ VERSION = ["splint", "-help", "version"]
 RELEVANT = re.compile("mustfree|usereleased|compdestroy|branchstate|statetransfer|statemerge|trans$|unique|retvalother|nullderef|nullpass|casebreak|misscase")
 MESSAGE = re.compile(r"(?m)^(\S+?):(\d+):\d+: ((?:.+)(?:\n[ \t]+.*)*)")
 
+NOTE = re.compile(r"(?m)^[ \t]+(\S+?):(\d+):\d+: ")
+"""A further place of a message."""
+
 
 def command(text: Path, include: Path) -> List[str]:
     """How splint is called on a text; it looks for its files of states in the folder of LARCH_PATH."""
@@ -27,5 +30,6 @@ def diagnostics(output: str, name: str, status: int) -> List[Diagnostic]:
     for file, line, text in MESSAGE.findall(output):
         kind = re.search(r"\(Use -(\w+) to\s+inhibit", text)
         if kind and RELEVANT.search(kind.group(1)):
-            found.append(Diagnostic(kind.group(1), text.split("\n")[0], int(line) if file.endswith(name) else None))
+            notes = tuple(int(place) for other, place in NOTE.findall(text) if other.endswith(name))
+            found.append(Diagnostic(kind.group(1), text.split("\n")[0], int(line) if file.endswith(name) else None, notes))
     return found

@@ -18,7 +18,7 @@ clang, cppcheck, gcc, rustc, sparse, splint = (
     importlib.import_module(f"adapters.{name}") for name in ("clang", "cppcheck", "gcc", "rustc", "sparse", "splint")
 )
 messages, scoring = importlib.import_module("messages"), importlib.import_module("scoring")
-Diagnostic, ToolError, score = messages.Diagnostic, messages.ToolError, scoring.score
+Diagnostic, Edit, ToolError, score = messages.Diagnostic, messages.Edit, messages.ToolError, scoring.score
 
 CASES = sorted(file.parent for file in BENCH.glob("cases/*/case.json"))
 
@@ -41,6 +41,16 @@ wrong.c:5:14: Fresh storage s not released before return
 wrong.c:2:5: Function exported but not used outside wrong: work
   A declaration is exported. (Use -exportlocal to inhibit warning)
 """
+
+
+def rustc_error(code: str, message: str) -> str:
+    """What rustc writes, one value in JSON a line: an error on line 8 with a note and a suggestion on line 6, then its last word."""
+    place = {"file_name": "wrong.rs", "line_end": 6, "column_start": 7, "column_end": 7}
+    own = {**place, "line_start": 8, "is_primary": True}
+    note = {**place, "line_start": 6, "is_primary": False}
+    change = {**note, "suggested_replacement": ".clone()", "suggestion_applicability": "MaybeIncorrect"}
+    error = {"level": "error", "code": {"code": code}, "message": message, "spans": [own, note], "children": [{"spans": []}, {"spans": [change]}]}
+    return json.dumps(error) + "\n" + json.dumps({"level": "error", "code": None, "message": "aborting", "spans": [], "children": []}) + "\n"
 
 
 class Cases(unittest.TestCase):
@@ -87,8 +97,8 @@ class Adapters(unittest.TestCase):
         self.assertEqual(
             gcc.diagnostics(GCC, "wrong.c", 0),
             [
-                Diagnostic("-Wanalyzer-malloc-leak", "leak of 's' [CWE-401]", 5),
-                Diagnostic("-Wanalyzer-null-dereference", "dereference of NULL '0' [CWE-476]", 7),
+                Diagnostic("-Wanalyzer-malloc-leak", "leak of 's' [CWE-401]", 5, (3,)),
+                Diagnostic("-Wanalyzer-null-dereference", "dereference of NULL '0' [CWE-476]", 7, (7,)),
             ],
         )
 
@@ -109,13 +119,18 @@ class Adapters(unittest.TestCase):
         self.assertEqual([it.line for it in sparse.diagnostics(said, "wrong.c", 0)], [2])
 
     def test_rustc(self) -> None:
-        said = "wrong.rs:8:10: error[E0382]: use of moved value: `s`\nerror: aborting due to 1 previous error\n"
-        self.assertEqual(rustc.diagnostics(said, "wrong.rs", 1), [Diagnostic("E0382", "use of moved value: `s`", 8)])
+        moved = Diagnostic("E0382", "use of moved value: `s`", 8, (6,), (Edit((6, 7), (6, 7), ".clone()"),))
+        self.assertEqual(rustc.diagnostics(rustc_error("E0382", "use of moved value: `s`"), "wrong.rs", 1), [moved])
         with self.assertRaises(ToolError):
-            rustc.diagnostics("wrong.rs:1:1: error[E0425]: cannot find value `x` in this scope\n", "wrong.rs", 1)
+            rustc.diagnostics(rustc_error("E0425", "cannot find value `x` in this scope"), "wrong.rs", 1)
 
     def test_splint(self) -> None:
-        self.assertEqual(splint.diagnostics(SPLINT, "wrong.c", 1), [Diagnostic("mustfreefresh", "Fresh storage s not released before return", 5)])
+        leak = Diagnostic("mustfreefresh", "Fresh storage s not released before return", 5, (3,))
+        self.assertEqual(splint.diagnostics(SPLINT, "wrong.c", 1), [leak])
+
+    def test_fix_its(self) -> None:
+        said = "wrong.c:5:5: warning: leak of 's' [-Wanalyzer-malloc-leak]\nfix-it:\"wrong.c\":{5:1-5:1}:\"free(s);\\n\"\n"
+        self.assertEqual([it.cure for it in gcc.diagnostics(said, "wrong.c", 0)], [(Edit((5, 1), (5, 1), "free(s);\n"),)])
 
 
 class Scores(unittest.TestCase):
@@ -132,6 +147,16 @@ class Scores(unittest.TestCase):
 
     def test_silence_is_not_found(self) -> None:
         self.assertEqual(score([], [], 5).mark, "-")
+
+    def test_a_place_on_another_line_is_a_second_place_and_two_are_a_path(self) -> None:
+        for notes, second, path in (((), False, False), ((5,), False, False), ((5, 3), True, False), ((3, 4), True, True)):
+            with self.subTest(notes):
+                told = score([Diagnostic("leak", "leak of s", 5, notes)], [], 5)
+                self.assertEqual((told.has_second_place, told.has_path), (second, path))
+
+    def test_edits_are_made_where_they_stand(self) -> None:
+        edits = (Edit((1, 2), (1, 3), "xyz"), Edit((3, 1), (3, 1), "new\n"))
+        self.assertEqual(messages.apply(edits, b"abc\ndef\nghi\n"), b"axyzc\ndef\nnew\nghi\n")
 
 
 class Words(unittest.TestCase):
