@@ -14,6 +14,8 @@ enum { PLACE_BITS = 32, FIRST_PLACES = 64 };
 
 jmp_buf vault_library_end;
 
+long long vault_chosen[VAULT_CHOSEN];
+
 static struct {
     struct vault_object *places;
     size_t count;

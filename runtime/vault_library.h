@@ -43,4 +43,12 @@ void vault_library_drop(struct vault_object *object);
 /* Where a call goes on if the run ends in it. */
 extern jmp_buf vault_library_end;
 
+/* For a text that keeps the states of its objects, NAME_states.c: sets the state of an object, by its number; gives it, as a set; gives what vr_pick gave last; and has the
+ * states that the answer under way chose. The state of a new object has the number 0. */
+enum { VAULT_CHOSEN = 64 };
+void vault_set_state(vr_ref block, long long state);
+unsigned vault_state(vr_ref block);
+long long vault_picked(void);
+extern long long vault_chosen[VAULT_CHOSEN];
+
 #endif

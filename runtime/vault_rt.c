@@ -12,6 +12,7 @@
 #include "numbers.h"
 #include "vault_check.h"
 #include "vault_host.h"
+#include "vault_library.h"
 
 #if defined(VAULT_REUSE) && defined(VAULT_CHECK)
 #error "A record that is used again doesn't show that a reference to it is stale."
@@ -27,6 +28,7 @@ struct vr_body {
     vr_ref previous;
     long long out_since; /* with the host since this answer, from 1; 0 where it isn't */
     bool is_forgotten;   /* the host never gives it back */
+    unsigned char state; /* in a text that keeps states */
 #ifdef VAULT_CHECK
     long long number_count;
     long long reference_count;
@@ -68,7 +70,8 @@ static struct {
     enum talk talk;
     struct vault_call call;
     vr_ref objects[VAULT_ARGUMENTS]; /* the call's arguments that are objects */
-    long long taken; /* how many answers were */
+    long long taken;  /* how many answers were */
+    long long picked; /* what vr_pick gave last */
 
     long long statement; /* the one that runs */
 } run;
@@ -244,6 +247,7 @@ static struct vr_body *new_body(size_t numbers, size_t references)
     body->parent = body->child = body->next = body->previous = vr_null;
     body->out_since = 0;
     body->is_forgotten = false;
+    body->state = 0;
     return body;
 }
 
@@ -474,6 +478,7 @@ long long vr_pick(long long mask)
     if (bit < 0 || bit > 63 || ((unsigned long long) mask >> bit & 1) == 0) {
         bad_answer();
     }
+    run.picked = bit;
     return bit;
 }
 
@@ -520,6 +525,23 @@ void vr_end(void)
     if (vault_host_next(&number)) {
         bad_answer();
     }
+}
+
+/* ---- states, in a text that keeps them */
+
+void vault_set_state(vr_ref block, long long state)
+{
+    block->body->state = (unsigned char) state;
+}
+
+unsigned vault_state(vr_ref block)
+{
+    return 1u << block->body->state;
+}
+
+long long vault_picked(void)
+{
+    return run.picked;
 }
 
 /* ---- what instrumented texts ask of cells */

@@ -1,12 +1,13 @@
 """A program as a library of C: a function for each entry function. A call that isn't permitted runs nothing, and says why.
 
 Each call asks what `vaultc host` asks: each object is held and of the parameter's type, each key of the clause is in its states, one key stands for one object,
-and keys of the clause for different ones. In C no object has a state at run time, so states are followed as the sets that the clauses leave."""
+and keys of the clause for different ones. States are followed as the sets that the clauses leave. If a clause leaves more than one, the library is made of a text that keeps
+the states of objects, and asks it."""
 from __future__ import annotations
 
 from typing import Dict, List, Tuple
 
-from .certificate import BOUND, NEW, TAKEN, Certificate, FunctionRow, Shape
+from .certificate import BOUND, NEW, TAKEN, Certificate, Entry, FunctionRow, Shape, bits
 from .clauses import clause_text, states_text
 from .naming import Scope, c_name
 
@@ -14,7 +15,7 @@ PLAIN = {"int": "long long", "bool": "bool"}
 
 
 class Library:
-    """Writes the two files of a program's library; `text` is the name of its C file."""
+    """Writes the two files of a program's library; `text` is the name of the C file that it is made of."""
 
     def __init__(self, base: str, text: str, certificate: Certificate) -> None:
         self.base = base
@@ -151,10 +152,26 @@ class Library:
             if entry.mode == TAKEN:
                 lines.append(f"    vault_library_drop(objects[{number}]);")
             else:
-                lines.append(f"    objects[{number}]->states = {self.certificate.after(function, entry)}u;")
+                states = self.states_after(function, entry, f"objects[{number}]->block")
+                lines.append(f"    objects[{number}]->states = {states};")
         return lines
 
     def new_handle(self, function: FunctionRow) -> str:
         entry = next(it for it in function.clause if it.mode == NEW)
+        states = self.states_after(function, entry, "value")
+        return f"    result->handle = vault_library_add(value, {function.result.type}, {states});"
+
+    def states_after(self, function: FunctionRow, entry: Entry, block: str) -> str:
+        """The states in which a call leaves an object: those of the clause if that is one, else the one that the text keeps."""
         states = self.certificate.after(function, entry)
-        return f"    result->handle = vault_library_add(value, {function.result.type}, {states}u);"
+        return f"{states}u" if is_one(states) else f"vault_state({block})"
+
+    @property
+    def keeps_states(self) -> bool:
+        """Whether a clause leaves an object that is held in one of several states."""
+        left = [(it, entry) for it in self.functions for entry in it.clause if entry.mode not in (TAKEN, BOUND)]
+        return any(not is_one(self.certificate.after(it, entry)) for it, entry in left)
+
+
+def is_one(states: int) -> bool:
+    return len(bits(states)) == 1

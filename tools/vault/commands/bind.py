@@ -5,7 +5,8 @@ usage: vault bind host F.c [--name NAME] [--to FOLDER]
 
 F.c is verified first; a file that isn't verified is refused with the line of `vaultc verify`, and nothing is written. `host` writes NAME_host.h, with a prototype
 for each external whose result has just the answers that keep its clause, and NAME_host.c, the glue to the runtime. `library` writes NAME.h and NAME_lib.c: a
-function for each function that a host may call, which refuses calls in a wrong state. docs/C.md says how they are compiled."""
+function for each function that a host may call, which refuses calls in a wrong state; and NAME_states.c if a clause leaves an object in one of several states.
+docs/C.md says how they are compiled."""
 from __future__ import annotations
 
 import argparse
@@ -14,7 +15,7 @@ from pathlib import Path
 from typing import Dict
 
 from .. import programs
-from ..bind import certificate
+from ..bind import certificate, states
 from ..bind.host import Host
 from ..bind.library import Library
 from ..bind.naming import base_name
@@ -40,20 +41,28 @@ def run(options: argparse.Namespace) -> int:
         sys.stdout.write(answer.output)
         return answer.status
     path = Path(options.file)
-    heads = certificate.read(path)
     base = base_name(Path(options.name) if options.name else path)
-    for name, text in files(options.side, base, path.name, heads).items():
+    made = host_files(base, certificate.read(path)) if options.side == "host" else library_files(base, path)
+    for name, text in made.items():
         write(Path(options.to) / name, text)
     return 0
 
 
-def files(side: str, base: str, text: str, heads: certificate.Certificate) -> Dict[str, str]:
-    """The files of a side, by their names."""
-    if side == "host":
-        host = Host(base, heads)
-        return {f"{base}_host.h": host.header(), f"{base}_host.c": host.glue()}
-    library = Library(base, text, heads)
-    return {f"{base}.h": library.header(), f"{base}_lib.c": library.code()}
+def host_files(base: str, heads: certificate.Certificate) -> Dict[str, str]:
+    """The files of the host's side, by their names."""
+    host = Host(base, heads)
+    return {f"{base}_host.h": host.header(), f"{base}_host.c": host.glue()}
+
+
+def library_files(base: str, path: Path) -> Dict[str, str]:
+    """The files of a library, by their names."""
+    heads = certificate.read(path)
+    library = Library(base, path.name, heads)
+    found = {}
+    if library.keeps_states:
+        library = Library(base, f"{base}_states.c", heads)
+        found[library.text] = states.with_states(programs.take("vaultc"), path.read_text(encoding="utf-8"), heads)
+    return {f"{base}.h": library.header(), f"{base}_lib.c": library.code(), **found}
 
 
 def write(path: Path, text: str) -> None:

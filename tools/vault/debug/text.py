@@ -4,26 +4,10 @@ from __future__ import annotations
 import re
 from typing import Dict, List
 
-from ..bind.certificate import Certificate, FunctionRow, Shape
+from ..bind.certificate import Certificate, FunctionRow
 from ..bind.naming import plain
+from ..bind.slots import slots
 from .places import FUNCTION
-
-NUMBER, REFERENCE = "n", "p"
-
-
-def slot_kinds(certificate: Certificate, shape: Shape) -> List[str]:
-    """The slots of a value: `n` for numbers, `p` for references. A variant has one for its case, and for each sort of payload as many as the case with
-    most of it."""
-    if shape.kind in ("int", "bool"):
-        return [NUMBER]
-    if shape.kind not in ("var", "ownvar"):
-        return [REFERENCE]
-    cases = certificate.types[shape.type].cases
-
-    def most(*kinds: str) -> int:
-        return max((sum(it.kind in kinds for it in case.payload) for case in cases), default=0)
-
-    return [NUMBER] * (1 + most("int", "bool")) + [REFERENCE] * (most("guard") + most("own"))
 
 
 def names_of(certificate: Certificate, function: FunctionRow) -> Dict[str, str]:
@@ -31,13 +15,10 @@ def names_of(certificate: Certificate, function: FunctionRow) -> Dict[str, str]:
     twice, in two blocks, has the number of its variable behind it."""
     found: Dict[str, str] = {}
     used: Dict[str, int] = {}
-    next_number = {NUMBER: 0, REFERENCE: 0}
-    for number, (name, shape) in enumerate(function.variables):
+    for number, ((name, _), places) in enumerate(zip(function.variables, slots(certificate, function))):
         base = "" if not name else f"v_{plain(name)}" if name not in used else f"v_{plain(name)}_{number}"
         used.setdefault(name, number)
-        for place, kind in enumerate(slot_kinds(certificate, shape)):
-            c_name = f"{kind}{next_number[kind]}"
-            next_number[kind] += 1
+        for place, c_name in enumerate(places):
             if base:
                 found[c_name] = base if place == 0 else f"{base}_{place}"
     return found

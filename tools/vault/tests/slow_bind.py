@@ -9,7 +9,8 @@ from pathlib import Path
 from vault import paths
 from vault.tests import drivers_compiled as drivers
 
-SOURCES = ("examples/device.v", "examples/tutorial/10_driver.v", "tools/vault/tests/drivers/pump.v", "tools/vault/tests/drivers/switch.v")
+DRIVERS = "tools/vault/tests/drivers"
+SOURCES = ("examples/device.v", "examples/tutorial/10_driver.v", f"{DRIVERS}/pump.v", f"{DRIVERS}/switch.v", f"{DRIVERS}/valve.v")
 
 
 class Libraries(unittest.TestCase):

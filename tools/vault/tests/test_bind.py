@@ -21,6 +21,7 @@ from vault.tests import drivers_compiled as drivers
 EXAMPLES = paths.TOP / "examples"
 RUNTIME = paths.TOP / "runtime"
 LIB = paths.TOP / "lib"
+DRIVERS = Path(__file__).parent / "drivers"
 SANITIZE = ("-fsanitize=address,undefined", "-fno-sanitize-recover=all", "-g")
 LISTS = 25
 
@@ -83,13 +84,37 @@ class Bindings(unittest.TestCase):
         self.assertEqual((told.exception.status, told.exception.message), (2, "nowhere.c: the file can't be read: there is no file of this name"))
 
     def test_libraries_do_what_the_host_command_does(self) -> None:
-        for source in (EXAMPLES / "device.v", EXAMPLES / "tutorial" / "10_driver.v", Path(__file__).parent / "drivers" / "pump.v"):
-            name = self.folder / f"d_{source.name}"
-            shutil.copyfile(source, name)
+        for source in (EXAMPLES / "device.v", EXAMPLES / "tutorial" / "10_driver.v", DRIVERS / "pump.v", DRIVERS / "valve.v"):
             for compiler in compilers():
                 with self.subTest(source.name, compiler=compiler):
-                    driver = drivers.build(name, self.folder, compiler, SANITIZE)
-                    self.assertEqual(drivers.differences(driver, LISTS, 59, self.folder), [])
+                    self.assertEqual(drivers.differences(self.driver(source, compiler), LISTS, 59, self.folder), [])
+
+    def driver(self, source: Path, compiler: str) -> drivers.Driver:
+        """A driver with its library, under a name that no file of runtime/ has."""
+        name = self.folder / f"d_{source.name}"
+        shutil.copyfile(source, name)
+        return drivers.build(name, self.folder, compiler, SANITIZE)
+
+    def test_a_library_knows_the_state_that_a_clause_leaves_open(self) -> None:
+        pump = self.driver(DRIVERS / "pump.v", "cc")
+        calls = ["install 1 1", "install 1 1", "is_faster #1 #2", "remove #2", "start #1", "is_faster #1 #1"]
+        host, compiled = drivers.outcomes(pump, calls, [], self.folder)
+        self.assertEqual(compiled.splitlines()[-3:], ["!remove #2", "!start #1", "call 6 bad"])
+        self.assertEqual(host, compiled)
+        valve = self.driver(DRIVERS / "valve.v", "cc")
+        calls = ["connect", "connect", "move #1 #2", "mend #1", "test #2", "mend #2", "test #2", "leave #2", "leave #1"]
+        host, compiled = drivers.outcomes(valve, calls, ["0", "1", "2 2", "", "1 7", "", "0 1", "", ""], self.folder)
+        self.assertEqual(compiled.splitlines()[-2:], ["!leave #1", "@detach #1"])
+        self.assertEqual(host, compiled)
+
+    def test_a_text_that_keeps_states_is_the_emitted_one_with_lines(self) -> None:
+        text = self.emit(DRIVERS / "valve.v")
+        self.assertEqual(self.vault("bind", "library", str(text), "--to", str(self.folder)), 0)
+        made = (self.folder / "valve_states.c").read_text().splitlines()
+        self.assertEqual([line for line in made if not line.startswith("vault_")], text.read_text().split("/*VAULT-CERT")[0].splitlines())
+        self.assertEqual(len([line for line in made if line.startswith("vault_set_state")]), 10)
+        self.assertEqual(self.vault("bind", "library", str(self.emit(EXAMPLES / "device.v")), "--to", str(self.folder)), 0)
+        self.assertFalse((self.folder / "device_states.c").exists())
 
     def test_the_echo_service(self) -> None:
         text = self.emit(EXAMPLES / "echo.v")
@@ -192,7 +217,7 @@ class Names(unittest.TestCase):
         rows.append(["fn", "log", ["void"], 1, [[4, 0, 1, -1]], [["K", 0]], [["c", ["key", 0, 0, []]]], 0])
         heads = certificate.certificate(rows)
         self.assertEqual(heads.before(heads.functions[0], heads.functions[0].clause[0]), 0b011)
-        self.assertEqual(sorted(bind.files("host", "x", "x.c", heads)), ["x_host.c", "x_host.h"])
+        self.assertEqual(sorted(bind.host_files("x", heads)), ["x_host.c", "x_host.h"])
 
 
 if __name__ == "__main__":
