@@ -6,14 +6,20 @@
 #include <string.h>
 
 /* An answer has a state for each key, and then a case with its keys and what it carries. */
-enum { MOST_NUMBERS = 256, FIRST_THINGS = 256 };
+enum { MOST_NUMBERS = 256, FIRST_PLACES = 256 };
 
-/* Of an object that has gone to the host for good nothing is kept, so the table is a window that moves with the numbers of the objects. */
+/* What the host has for an object. */
+struct place {
+    long long object;
+    void *thing; /* null where the place is free */
+};
+
+/* A hash table with open addressing: an object is at the place of its number's last bits, or after it. Of an object that went to the host for good nothing is kept. */
 static struct {
-    void **things;
-    long long first; /* the number of the first thing */
-    long long count;
-} table = {NULL, 1, 0};
+    struct place *places;
+    size_t count; /* a power of 2, or 0 */
+    size_t used;  /* at most half of them */
+} table;
 
 static struct {
     long long numbers[MOST_NUMBERS];
@@ -21,50 +27,82 @@ static struct {
     int read;
 } answer;
 
-/* Lets go of the empty places at the table's beginning, once they are half of it. */
-static void move_window(void)
+static size_t first_place(long long object)
 {
-    long long empty = 0;
-    while (empty < table.count && table.things[empty] == NULL) {
-        empty++;
-    }
-    if (empty > table.count / 2) {
-        memmove(table.things, table.things + empty, (size_t) (table.count - empty) * sizeof *table.things);
-        memset(table.things + table.count - empty, 0, (size_t) empty * sizeof *table.things);
-        table.first += empty;
-    }
+    return (size_t) object & (table.count - 1);
 }
 
-void **vault_thing(long long object)
+static size_t next_place(size_t place)
 {
-    static void *none;
-    if (object < table.first) {
-        none = NULL;
-        return &none;
+    return (place + 1) & (table.count - 1);
+}
+
+/* Where an object is, or the free place where it would be. */
+static struct place *find(long long object)
+{
+    size_t place = first_place(object);
+    while (table.places[place].thing != NULL && table.places[place].object != object) {
+        place = next_place(place);
     }
-    if (object >= table.first + table.count && table.count > 0) {
-        move_window();
+    return &table.places[place];
+}
+
+static void grow(void)
+{
+    struct place *old = table.places;
+    size_t count = table.count;
+    table.count = count == 0 ? FIRST_PLACES : 2 * count;
+    table.places = calloc(table.count, sizeof *table.places);
+    if (table.places == NULL) {
+        vault_stop(VAULT_NO_MEMORY, "%s", "");
     }
-    if (object >= table.first + table.count) {
-        long long count = table.count == 0 ? FIRST_THINGS : table.count;
-        void **things;
-        while (object >= table.first + count) {
-            count *= 2;
+    for (size_t i = 0; i < count; i++) {
+        if (old[i].thing != NULL) {
+            *find(old[i].object) = old[i];
         }
-        things = realloc(table.things, (size_t) count * sizeof *things);
-        if (things == NULL) {
-            vault_stop(VAULT_NO_MEMORY, "%s", "");
-        }
-        memset(things + table.count, 0, (size_t) (count - table.count) * sizeof *things);
-        table.things = things;
-        table.count = count;
     }
-    return &table.things[object - table.first];
+    free(old);
+}
+
+/* Frees a place, and moves those behind it that aren't found any more across a free one. */
+static void empty(size_t hole)
+{
+    table.used--;
+    for (size_t place = next_place(hole); table.places[place].thing != NULL; place = next_place(place)) {
+        size_t way = (place - first_place(table.places[place].object)) & (table.count - 1);
+        if (way >= ((place - hole) & (table.count - 1))) {
+            table.places[hole] = table.places[place];
+            hole = place;
+        }
+    }
+    table.places[hole].thing = NULL;
+}
+
+void *vault_thing(long long object)
+{
+    return table.count == 0 ? NULL : find(object)->thing;
+}
+
+void vault_set_thing(long long object, void *thing)
+{
+    struct place *place;
+    if (2 * (table.used + 1) > table.count) {
+        grow();
+    }
+    place = find(object);
+    if (thing == NULL) {
+        if (place->thing != NULL) {
+            empty((size_t) (place - table.places));
+        }
+        return;
+    }
+    table.used += place->thing == NULL;
+    *place = (struct place) {object, thing};
 }
 
 void vault_gone(long long object)
 {
-    *vault_thing(object) = NULL;
+    vault_set_thing(object, NULL);
     vault_host_forget(object);
 }
 

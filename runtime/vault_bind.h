@@ -18,8 +18,11 @@ struct vault_external {
 extern const struct vault_external vault_externals[];
 extern const int vault_external_count;
 
-/* The place for what the host has for an object, by the object's number; it is null at first. */
-void **vault_thing(long long object);
+/* What the host has for an object, by the object's number; null unless it was set. */
+void *vault_thing(long long object);
+
+/* Sets what the host has for an object; null for nothing. */
+void vault_set_thing(long long object, void *thing);
 
 /* Within a call: the object that it hands over never comes back. */
 void vault_gone(long long object);

@@ -1,12 +1,16 @@
-/* A freestanding runtime: the program that VAULT_PROGRAM names and its primitives, over the three functions of vault_free.h and a
- * host. It needs no C library. A block's memory is given back as the block ends, so it is for programs in which each external's
- * clause has the keys of all its parameters, without a `+`. There are no budgets, and nothing is checked: what `vaultc verify`
- * accepts is never undefined. A program that prints or reads input doesn't link. */
+/* A freestanding runtime: the program that VAULT_PROGRAM names, if it is told, and its primitives, over the three functions of
+ * vault_free.h and a host. It needs no C library. A block's memory is given back as the block ends, so it is for programs in which
+ * no external is told of an object that is gone. There are no budgets, and nothing is checked: what `vaultc verify` accepts is
+ * never undefined. A program that prints or reads input doesn't link. */
+
+#ifndef VAULT_FREE
+#define VAULT_FREE
+#endif
 
 #include "vault_free.h"
 
+#include "vault_library.h"
 #include "vault_rt.h"
-#include "vault_text.h"
 
 enum { NUMBER_REGISTERS = 8, REFERENCE_REGISTERS = 16, MOST_CELLS = 16777216 };
 
@@ -17,8 +21,9 @@ struct vr_body {
     vr_ref child;  /* the first one */
     vr_ref next;   /* of the same parent */
     vr_ref previous;
-    bool is_out;       /* with the host */
-    bool is_forgotten; /* the host never gives it back */
+    bool is_out;         /* with the host */
+    bool is_forgotten;   /* the host never gives it back */
+    unsigned char state; /* in a text that keeps states */
     long long cells[];
 };
 
@@ -28,16 +33,34 @@ static struct {
     vr_ref references[REFERENCE_REGISTERS];
     struct vault_call call;
     vr_ref objects[VAULT_ARGUMENTS]; /* the call's arguments that are objects */
+    long long picked;                /* what vr_pick gave last */
 } run;
+
+void (*vault_on_stop)(enum vault_status status, const char *line);
+
+#ifdef VAULT_PROGRAM
+#include "vault_text.h"
 
 void vault_run(void)
 {
     (void) VR_MAIN();
 }
+#endif
+
+#if defined(__GNUC__)
+__attribute__((noreturn))
+#endif
+static void end_run(enum vault_status status, const char *line)
+{
+    if (vault_on_stop != NULL) {
+        vault_on_stop(status, line);
+    }
+    vault_end(status, line);
+}
 
 void vr_trap(long long kind)
 {
-    vault_end(VAULT_TRAP, kind == 1 ? "trap 1" : "trap 2");
+    end_run(VAULT_TRAP, kind == 1 ? "trap 1" : "trap 2");
 }
 
 /* ---- blocks */
@@ -48,7 +71,7 @@ vr_ref vr_new(long long numbers, long long references)
     size_t cells = is_small ? (size_t) numbers * sizeof(long long) + (size_t) references * sizeof(vr_ref) : 0;
     struct vr_body *body = is_small ? vault_allocate(offsetof(struct vr_body, cells) + cells) : NULL;
     if (body == NULL) {
-        vault_end(VAULT_NO_MEMORY, "");
+        end_run(VAULT_NO_MEMORY, "");
     }
     body->record.body = body;
     body->record.n = body->cells;
@@ -56,6 +79,7 @@ vr_ref vr_new(long long numbers, long long references)
     body->record.number = ++run.made;
     body->parent = body->child = body->next = body->previous = vr_null;
     body->is_out = body->is_forgotten = false;
+    body->state = 0;
     return &body->record;
 }
 
@@ -171,13 +195,13 @@ void vr_ask(void)
 {
     run.call.next_object = run.made + 1;
     if (!vault_host_ask(&run.call)) {
-        vault_end(VAULT_NO_ANSWER, "answers ended");
+        end_run(VAULT_NO_ANSWER, "answers ended");
     }
 }
 
 static void bad_answer(void)
 {
-    vault_end(VAULT_NO_ANSWER, "answer bad");
+    end_run(VAULT_NO_ANSWER, "answer bad");
 }
 
 long long vr_int(void)
@@ -195,6 +219,7 @@ long long vr_pick(long long mask)
     if (bit < 0 || bit > 63 || ((unsigned long long) mask >> bit & 1) == 0) {
         bad_answer();
     }
+    run.picked = bit;
     return bit;
 }
 
@@ -229,4 +254,21 @@ void vr_end(void)
     if (vault_host_next(&number)) {
         bad_answer();
     }
+}
+
+/* ---- states, in a text that keeps them */
+
+void vault_set_state(vr_ref block, long long state)
+{
+    block->body->state = (unsigned char) state;
+}
+
+unsigned vault_state(vr_ref block)
+{
+    return 1u << block->body->state;
+}
+
+long long vault_picked(void)
+{
+    return run.picked;
 }

@@ -20,7 +20,7 @@ __attribute__((noreturn))
 #endif
 void vault_end(enum vault_status status, const char *line);
 
-/* Runs the program from its `main` on. It is for one thread at a time. */
+/* Runs the program from its `main` on, if VAULT_PROGRAM names one. It is for one thread at a time. */
 void vault_run(void);
 
 #endif

@@ -47,8 +47,8 @@ enum vault_status {
     VAULT_UNDEFINED = 13
 };
 
-/* Called by vault_stop in place of ending the process, where it is set; it doesn't return. The line is empty where memory ran out. A library sets
- * it, so that a call ends and not the process. */
+/* Called by vault_stop in place of ending the process, where it is set; it doesn't return, but in a
+ * freestanding build, where vault_end follows. The line is empty where memory ran out. A library sets it, so that a call ends and not the process. */
 extern void (*vault_on_stop)(enum vault_status status, const char *line);
 
 /* Ends the run with this last line. */

@@ -3,7 +3,9 @@
 #ifndef VAULT_LIBRARY_H
 #define VAULT_LIBRARY_H
 
+#ifndef VAULT_FREE
 #include <setjmp.h>
+#endif
 #include <stdbool.h>
 
 #include "vault_rt.h"
@@ -40,8 +42,13 @@ unsigned long long vault_library_add(vr_ref block, int type, unsigned states);
 /* The object isn't held any more, and its handle is refused from now on. */
 void vault_library_drop(struct vault_object *object);
 
-/* Where a call goes on if the run ends in it. */
+/* Where a call goes on if the run ends in it; a freestanding build has no such place. */
+#ifdef VAULT_FREE
+#define VAULT_LIBRARY_ENDED() false
+#else
 extern jmp_buf vault_library_end;
+#define VAULT_LIBRARY_ENDED() (setjmp(vault_library_end) != 0)
+#endif
 
 /* For a text that keeps the states of its objects, NAME_states.c: sets the state of an object, by its number; gives it, as a set; gives what vr_pick gave last; and has the
  * states that the answer under way chose. The state of a new object has the number 0. */

@@ -26,7 +26,7 @@ struct vr_body {
     vr_ref child;  /* the first one */
     vr_ref next;   /* of the same parent */
     vr_ref previous;
-    long long out_since; /* with the host since this answer, from 1; 0 where it isn't */
+    bool is_out;         /* with the host */
     bool is_forgotten;   /* the host never gives it back */
     unsigned char state; /* in a text that keeps states */
 #ifdef VAULT_CHECK
@@ -189,7 +189,7 @@ static bool is_live(vr_ref block)
 
 static bool is_out(vr_ref block)
 {
-    return block->body->out_since != 0;
+    return block->body->is_out;
 }
 
 static bool is_below(vr_ref block)
@@ -245,7 +245,7 @@ static struct vr_body *new_body(size_t numbers, size_t references)
     struct vr_body *body = allocated(size);
 #endif
     body->parent = body->child = body->next = body->previous = vr_null;
-    body->out_since = 0;
+    body->is_out = false;
     body->is_forgotten = false;
     body->state = 0;
     return body;
@@ -497,7 +497,7 @@ void vr_out(vr_ref block)
     if (block->body->is_forgotten) {
         vr_release(block);
     } else {
-        block->body->out_since = run.taken;
+        block->body->is_out = true;
     }
 }
 
@@ -508,13 +508,7 @@ void vr_back(vr_ref block)
     if (!is_live(block) || !is_out(block)) {
         bad_answer();
     }
-#ifdef VAULT_REUSE
-    /* The record may be another block's by now, but not where the block went out in this call. */
-    if (block->body->out_since != run.taken) {
-        bad_answer();
-    }
-#endif
-    block->body->out_since = 0;
+    block->body->is_out = false;
 }
 
 void vr_end(void)

@@ -19,12 +19,14 @@ KEPT, TAKEN, GIVEN, NEW, BOUND = range(5)
 @dataclass(frozen=True)
 class Shape:
     """The type of a value. The kind is `void`, `int`, `bool`, `key` (a reference to the object of a key), `own` (an owned object in one of the states
-    `states`, a mask), `guard`, `var` or `ownvar` (a variant); `type` is the number of the type, `key` that of the key."""
+    `states`, a mask), `guard`, `var` or `ownvar` (a variant); `type` is the number of the type, `key` that of the key, and `arguments` are the keys of its
+    header."""
 
     kind: str
     type: int = NONE
     key: int = NONE
     states: int = NONE
+    arguments: Tuple[int, ...] = ()
 
 
 @dataclass(frozen=True)
@@ -82,6 +84,11 @@ class FunctionRow:
     def entry(self, key: int) -> Optional[Entry]:
         """The entry of a key, if the clause has one."""
         return next((it for it in self.clause if it.key == key), None)
+
+    def is_held_before(self, key: int) -> bool:
+        """Whether a call needs the key."""
+        entry = self.entry(key)
+        return entry is not None and entry.is_held_before
 
 
 @dataclass(frozen=True)
@@ -153,7 +160,7 @@ def shape(row: List[Any]) -> Shape:
         return Shape(kind, row[2], key=row[1])
     if kind == "own":
         return Shape(kind, row[2], states=row[1])
-    return Shape(kind, row[1]) if kind in ("var", "ownvar") else Shape(kind)
+    return Shape(kind, row[1], arguments=tuple(row[2])) if kind in ("var", "ownvar") else Shape(kind)
 
 
 def type_row(row: List[Any], cases: List[List[Any]]) -> TypeRow:

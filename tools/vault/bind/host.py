@@ -7,8 +7,9 @@ from __future__ import annotations
 from dataclasses import dataclass
 from typing import List, Tuple
 
-from .certificate import BOUND, TAKEN, Case, Certificate, Entry, FunctionRow, Shape, TypeRow, bits
+from .certificate import BOUND, TAKEN, Case, Certificate, FunctionRow, Shape, TypeRow, bits
 from .clauses import clause_text, states_text
+from .lasting import Lasting
 from .naming import Scope, c_name
 
 PLAIN = {"int": "long long", "bool": "bool", "void": "void"}
@@ -169,6 +170,7 @@ class Host:
         rows = [f'    {{"{it.name}", carry_out_{it.name}}},' for it in externals] or ["    {NULL, NULL},"]
         parts = [
             f'#include "{self.base}_host.h"\n\n#include "vault_bind.h"\n',
+            *Lasting(self.certificate).guards(),
             *(self.carrier(function) for function in externals),
             "const struct vault_external vault_externals[] = {",
             *rows,
@@ -191,7 +193,7 @@ class Host:
             lines.append(f"    {call};")
         else:
             lines.append(f"    {self.declared(function.result, 'result')} = {call};")
-        lines += ["    (void) call;"] + [f"    {line}" for line in self.forgets(function)]
+        lines += ["    (void) call;"] + [f"    {line}" for line in Lasting(self.certificate).lines(function)]
         lines += [f"    vault_answer({it.name});" for it in choices if it.name != "state_of_result"]
         lines += [f"    {line}" for line in self.result_lines(function)]
         return "\n".join([*lines, "    return true;", "}\n"])
@@ -201,7 +203,7 @@ class Host:
             return f"call->arguments[{number}].number"
         if shape.kind == "bool":
             return f"call->arguments[{number}].number != 0"
-        return f"*vault_thing(call->arguments[{number}].number)"
+        return f"vault_thing(call->arguments[{number}].number)"
 
     def result_lines(self, function: FunctionRow) -> List[str]:
         """What an answer says of the result."""
@@ -211,14 +213,15 @@ class Host:
         if result.kind in ("int", "bool"):
             return ["vault_answer(result);"]
         if result.kind in ("key", "own"):
-            lines = ["if (result == NULL) {", "    return false;", "}", "*vault_thing(call->next_object) = result;"]
+            lines = ["if (result == NULL) {", "    return false;", "}", "vault_set_thing(call->next_object, result);"]
             is_chosen = result.kind == "own" and self.is_choice(result.type, result.states)
             return lines + (["vault_answer(state_of_result);"] if is_chosen else [])
         kind = self.certificate.types[result.type]
+        lasting = Lasting(self.certificate)
         lines = ["vault_answer(result.which);", "switch (result.which) {"]
         for case in kind.cases:
             lines.append(f"case {self.member(kind.name, case.name)}:")
-            lines += [f"    {line}" for line in self.case_lines(kind, case)]
+            lines += [f"    {line}" for line in (*self.case_lines(kind, case), *lasting.lines_of_case(function, case))]
             lines.append("    break;")
         return [*lines, "}"]
 
@@ -230,29 +233,8 @@ class Host:
             number = name.rpartition("_")[2]
             shape = case.payload[int(number)] if name.startswith("value_") else None
             if shape is not None and shape.kind == "own":
-                lines.append(f"*vault_thing(call->next_object + {made}) = {place}.{name};")
+                lines.append(f"vault_set_thing(call->next_object + {made}, {place}.{name});")
                 made += 1
             else:
                 lines.append(f"vault_answer({place}.{name});")
         return lines
-
-    def forgets(self, function: FunctionRow) -> List[str]:
-        """Lines that let go of objects which no answer can give back."""
-        lines = []
-        for number, (_, shape) in enumerate(function.parameters):
-            entry: Entry = function.entry(shape.key) if shape.kind == "key" else None  # type: ignore[assignment]
-            is_taken = shape.kind == "own" or entry is not None and entry.mode == TAKEN
-            if is_taken and not self.comes_back(shape.type):
-                lines.append(f"vault_gone(call->arguments[{number}].number);")
-        return lines
-
-    def comes_back(self, type_number: int) -> bool:
-        """Whether an answer can give back an object of a type: by a `+` entry, or by a key of a case."""
-        for function in self.certificate.externals:
-            if any(entry.mode == 2 and function.keys[entry.key][1] in (type_number, -1) for entry in function.clause):
-                return True
-            if function.result.kind in ("var", "ownvar"):
-                kind = self.certificate.types[function.result.type]
-                if any(kind.header[key] in (type_number, -1) for case in kind.cases for key, _ in case.keys):
-                    return True
-        return False

@@ -78,7 +78,7 @@ class Library:
     def code(self) -> str:
         """NAME_lib.c."""
         parts = [
-            f'#include "{self.base}.h"\n\n#include <setjmp.h>\n#include <stddef.h>\n\n#include "vault_library.h"\n',
+            f'#include "{self.base}.h"\n\n#include <stddef.h>\n\n#include "vault_library.h"\n',
             f"#define VAULT_PROGRAM \"{self.text}\"\n#include \"vault_text.h\"\n",
             f"void {self.base}_begin(void)\n{{\n    vault_library_begin();\n}}\n",
             f"const char *{self.base}_refused(void)\n{{\n    return vault_library_refused();\n}}\n",
@@ -95,7 +95,7 @@ class Library:
         lines.append(f'    if (!vault_library_enter("{function.name}")) {{\n        return false;\n    }}')
         lines += [self.test(function, number, name, shape) for number, (name, shape) in enumerate(objects)]
         lines += self.comparisons(objects, function)
-        lines.append("    if (setjmp(vault_library_end) != 0) {\n        return false;\n    }")
+        lines.append("    if (VAULT_LIBRARY_ENDED()) {\n        return false;\n    }")
         lines.append(f"    {self.call(function, objects)}")
         lines += self.changes(function, objects)
         if function.result.kind == "key":
@@ -121,16 +121,12 @@ class Library:
                 other, earlier = objects[first]
                 if earlier.key == shape.key:
                     sign, why = "!=", f"{function.name}: {other} and {name} must be one object"
-                elif all(self.is_held(function, one.key) for one in (earlier, shape)):
+                elif all(function.is_held_before(one.key) for one in (earlier, shape)):
                     sign, why = "==", f"{function.name}: {other} and {name} must be different objects"
                 else:
                     continue
                 lines.append(f'    if (objects[{first}] {sign} objects[{second}]) {{\n        return vault_library_refuse("{why}");\n    }}')
         return lines
-
-    def is_held(self, function: FunctionRow, key: int) -> bool:
-        entry = function.entry(key)
-        return entry is not None and entry.is_held_before
 
     def call(self, function: FunctionRow, objects: List[Tuple[str, Shape]]) -> str:
         numbers: Dict[str, int] = {name: number for number, (name, _) in enumerate(objects)}

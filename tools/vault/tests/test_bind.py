@@ -155,18 +155,43 @@ class Bindings(unittest.TestCase):
         self.assertEqual(copied("from"), errno.EINVAL)
 
     def test_objects_that_cannot_come_back_are_freed(self) -> None:
-        source = self.folder / "packets.v"
-        source.write_text(PACKETS)
-        text = self.emit(source)
-        self.assertEqual(self.vault("bind", "host", str(text), "--to", str(self.folder)), 0)
-        host = self.folder / "outside.c"
-        host.write_text(OUTSIDE)
-        files = [RUNTIME / name for name in ("vault_main.c", "vault_rt.c", "numbers.c", "vault_bind.c")] + [self.folder / "packets_host.c", host]
-        words = ["cc", "-O1", "-DVAULT_REUSE", f'-DVAULT_PROGRAM="{text}"', "-I", str(self.folder), "-I", str(RUNTIME)]
-        subprocess.run([*words, *map(str, files), "-o", str(self.folder / "packets")], check=True)
-        measured = subprocess.run([str(self.folder / "packets")], stdout=subprocess.PIPE, universal_newlines=True, check=True)
-        kilobytes = int(measured.stdout.split()[-1])
-        self.assertLess(kilobytes, 1000)
+        self.assertLess(self.kilobytes("packets", PACKETS, PACKETS_HOST), 1000)
+
+    def test_a_mutex_is_locked_a_million_times(self) -> None:
+        self.assertLess(self.kilobytes("mutexes", MUTEXES, MUTEXES_HOST), 1000)
+
+    def test_what_a_call_takes_in_some_cases_is_freed_there(self) -> None:
+        self.assertLess(self.kilobytes("senders", SENDERS, SENDERS_HOST), 1000)
+
+    def kilobytes(self, name: str, text: str, host: str) -> int:
+        """The number that a program prints last, by which its memory grew."""
+        (self.folder / f"{name}.v").write_text(text)
+        emitted = self.emit(self.folder / f"{name}.v")
+        self.assertEqual(self.vault("bind", "host", str(emitted), "--name", "it", "--to", str(self.folder)), 0)
+        outside = self.folder / "outside.c"
+        outside.write_text(MEMORY + host)
+        files = [RUNTIME / it for it in ("vault_main.c", "vault_rt.c", "numbers.c", "vault_bind.c")] + [self.folder / "it_host.c", outside]
+        words = ["cc", "-O1", "-DVAULT_REUSE", f'-DVAULT_PROGRAM="{emitted}"', "-I", str(self.folder), "-I", str(RUNTIME)]
+        subprocess.run([*words, *map(str, files), "-o", str(self.folder / name)], check=True)
+        measured = subprocess.run([str(self.folder / name)], stdout=subprocess.PIPE, universal_newlines=True, check=True)
+        return int(measured.stdout.split()[-1])
+
+    def test_records_of_objects_that_may_be_gone_are_not_used_again(self) -> None:
+        heads = {
+            "extern void id(tracked(L) m k) [];": "id",
+            "extern void lend(tracked(L) box k) [+L];": "lend",
+            "extern void peek(tracked(L) m k, L:box b) [+L];": "peek",
+            "extern void back(tracked(L) m k) [+L];": "",
+        }
+        for told, error in heads.items():
+            with self.subTest(told):
+                source = self.folder / "told.v"
+                source.write_text(f"abstract m;\nstruct box {{ int n; }}\n{told}\nvoid main() {{}}\n")
+                self.assertEqual(self.vault("bind", "host", str(self.emit(source)), "--to", str(self.folder)), 0)
+                words = ["cc", "-DVAULT_REUSE", "-fsyntax-only", "-I", str(RUNTIME), "-I", str(self.folder), str(self.folder / "told_host.c")]
+                said = subprocess.run(words, stderr=subprocess.PIPE, universal_newlines=True)
+                self.assertEqual(said.returncode == 0, error == "")
+                self.assertIn(f"{error} may be told of an object that is gone" if error else "", said.stderr)
 
 
 PACKETS = """\
@@ -187,20 +212,111 @@ void main() {
 }
 """
 
-OUTSIDE = """\
+MEMORY = """\
 #include <malloc.h>
 #include <stdlib.h>
-#include "packets_host.h"
-struct packets_packet { long long n; };
-void packets_host_begin(void) {}
-struct packets_packet *packets_host_build(long long n)
+#include "it_host.h"
+void it_host_begin(void) {}
+long long it_host_memory(void) { return (long long) mallinfo2().uordblks / 1024; }
+"""
+
+PACKETS_HOST = """\
+struct it_packet { long long n; };
+struct it_packet *it_host_build(long long n)
 {
-    struct packets_packet *made = malloc(sizeof *made);
+    struct it_packet *made = malloc(sizeof *made);
     made->n = n;
     return made;
 }
-void packets_host_send(struct packets_packet *p) { free(p); }
-long long packets_host_memory(void) { return (long long) mallinfo2().arena / 1024; }
+void it_host_send(struct it_packet *p) { free(p); }
+"""
+
+# each turn makes an object that goes while the mutex stays
+MUTEXES = """\
+abstract mutex;
+struct job {
+    int n;
+}
+extern tracked(L) mutex create() [new L];
+extern void acquire(tracked(L) mutex m) [+L];
+extern void unlock(tracked(L) mutex m) [-L];
+extern int memory();
+void main() {
+    tracked(L) mutex m = create();
+    unlock(m);
+    int before = memory();
+    int i = 0;
+    while (i < 1000000) {
+        tracked(J) job j = new job { n: i };
+        acquire(m);
+        unlock(m);
+        release j;
+        i = i + 1;
+    }
+    int after = memory();
+    print(after - before);
+}
+"""
+
+MUTEXES_HOST = """\
+struct it_mutex { int held; };
+struct it_mutex *it_host_create(void) { return calloc(1, sizeof(struct it_mutex)); }
+void it_host_acquire(struct it_mutex *m) { m->held++; }
+void it_host_unlock(struct it_mutex *m) { m->held--; }
+"""
+
+# one packet stays, so that the table of things has an old one; of the others the call keeps each second one
+SENDERS = """\
+abstract packet;
+variant sent<P: packet> {
+    'Sent,
+    'Kept { P }
+}
+extern tracked(P) packet build(int n) [new P];
+extern tracked sent<P> send(tracked(P) packet p) [-P];
+extern void drop(tracked(P) packet p) [-P];
+extern int memory();
+void try(int n) {
+    tracked(P) packet p = build(n);
+    tracked sent<P> s = send(p);
+    switch (s) {
+        case 'Sent: {}
+        case 'Kept: {
+            drop(p);
+        }
+    }
+}
+void main() {
+    tracked(P) packet kept = build(0);
+    int before = memory();
+    int i = 0;
+    while (i < 1000000) {
+        try(i);
+        i = i + 1;
+    }
+    int after = memory();
+    drop(kept);
+    print(after - before);
+}
+"""
+
+SENDERS_HOST = """\
+struct it_packet { long long n; };
+struct it_packet *it_host_build(long long n)
+{
+    struct it_packet *made = malloc(sizeof *made);
+    made->n = n;
+    return made;
+}
+struct it_sent it_host_send(struct it_packet *p)
+{
+    struct it_sent sent = {.which = p->n % 2 == 0 ? it_sent_Sent : it_sent_Kept};
+    if (sent.which == it_sent_Sent) {
+        free(p);
+    }
+    return sent;
+}
+void it_host_drop(struct it_packet *p) { free(p); }
 """
 
 

@@ -12,7 +12,7 @@ import subprocess
 import tempfile
 import unittest
 from pathlib import Path
-from typing import Dict, List, Optional, Sequence
+from typing import Dict, List, Optional, Sequence, Set
 
 from vault import cli, paths, programs
 
@@ -20,6 +20,7 @@ LIB = paths.TOP / "lib"
 HOSTS = paths.TOP / "examples" / "hosts"
 RUNTIME = paths.TOP / "runtime"
 OWN = Path(__file__).parent / "lib"
+DRIVERS = Path(__file__).parent / "drivers"
 FAULTS = OWN / "faults.c"
 WARNINGS = ["-std=c99", "-Wall", "-Wextra", "-pedantic", "-Werror"]
 SANITIZE = ["-fsanitize=address,undefined", "-fno-sanitize-recover=all", "-g"]
@@ -38,6 +39,18 @@ def joined(interfaces: Sequence[str], program: str) -> str:
     """The text of a program behind the interfaces that it uses."""
     return "".join((LIB / f"{name}.v").read_text(encoding="utf-8") for name in interfaces) + program
 
+
+CALLED = """\
+install: the library hasn't begun
+average: p must be held@on
+faster 0
+average 107
+remove: p must be held@off
+stop: p must be held@on
+trap 2
+trap 2
+92 blocks
+"""
 
 DRIVER = """\
 stateset wire { idle, busy }
@@ -92,12 +105,12 @@ class Library(Compiled):
         """Compiles a program of examples/hosts."""
         return self.build_from(HOSTS / f"{name}.v", PROGRAMS[name])
 
-    def build_from(self, source: Path, interfaces: Sequence[str], *hosts: Path) -> Path:
+    def build_from(self, source: Path, interfaces: Sequence[str], *hosts: Path, sanitize: Sequence[str] = SANITIZE) -> Path:
         """Compiles a program behind interfaces, with the calls of the system through faults.c; `hosts` have its own externals."""
         emitted = self.bind(source.stem, joined(interfaces, source.read_text(encoding="utf-8")))
         files = [RUNTIME / it for it in ("vault_main.c", "vault_rt.c", "numbers.c", "vault_bind.c")]
         files += [self.folder / "lib_host.c", LIB / "common.c", FAULTS, *hosts, *(LIB / f"{it}.c" for it in interfaces)]
-        words = ["cc", *WARNINGS, *SANITIZE, "-pthread", f'-DVAULT_PROGRAM="{emitted}"', "-I", str(self.folder), "-I", str(RUNTIME), "-I", str(LIB)]
+        words = ["cc", *WARNINGS, *sanitize, "-pthread", "-DVAULT_REUSE", f'-DVAULT_PROGRAM="{emitted}"', "-I", str(self.folder), "-I", str(RUNTIME), "-I", str(LIB)]
         words += [f"-Wl,--wrap={call}" for call in WRAPPED]
         program = self.folder / source.stem
         subprocess.run([*words, *map(str, files), "-o", str(program)], check=True)
@@ -243,10 +256,36 @@ class Freestanding(Compiled):
         for compiler in filter(shutil.which, ("gcc", "clang")):
             with self.subTest(compiler):
                 compiled = self.compiled(compiler, DRIVER.replace("LEFT", "1"))
-                listed = subprocess.run(["nm", "-u", str(compiled)], stdout=subprocess.PIPE, universal_newlines=True, check=True)
-                self.assertEqual(set(listed.stdout.split()) - {"U"}, given)
+                self.assertEqual(self.undefined(compiled), given)
                 self.assertEqual(self.run_driver(compiled), (0, "8 0\n"))
         self.assertEqual(self.run_driver(self.compiled("cc", DRIVER.replace("LEFT", "(left + 3)"))), (9, "trap 2\n"))
+
+    def test_entry_functions_are_called(self) -> None:
+        given = {"vault_allocate", "vault_deallocate", "vault_end", "vault_host_ask", "vault_host_next"}
+        emitted = self.folder / "pump.c"
+        emitted.write_text(programs.take("vaultc").ask(["emit", str(DRIVERS / "pump.v")]).output, encoding="utf-8")
+        with contextlib.redirect_stdout(io.StringIO()):
+            self.assertEqual(cli.dispatch(["bind", "library", str(emitted), "--to", str(self.folder)]), 0)
+        for compiler in filter(shutil.which, ("gcc", "clang")):
+            with self.subTest(compiler):
+                compiled = self.library(compiler, "pump")
+                self.assertEqual(self.undefined(compiled), given)
+                self.assertEqual(self.run_driver(compiled, OWN / "kernel_library.c"), (0, CALLED))
+
+    def library(self, compiler: str, name: str) -> Path:
+        """The object file of a library with its runtime."""
+        made = []
+        for file in (self.folder / f"{name}_lib.c", RUNTIME / "vault_library.c", RUNTIME / "vault_free.c"):
+            made.append(str(self.folder / f"{file.stem}.o"))
+            words = [compiler, *WARNINGS, "-O2", "-ffreestanding", "-nostdlib", "-DVAULT_FREE", "-c", "-I", str(RUNTIME), "-I", str(self.folder)]
+            subprocess.run([*words, str(file), "-o", made[-1]], check=True)
+        subprocess.run(["ld", "-r", *made, "-o", str(self.folder / f"{name}.o")], check=True)
+        return self.folder / f"{name}.o"
+
+    def undefined(self, compiled: Path) -> Set[str]:
+        """The names that an object file asks for."""
+        listed = subprocess.run(["nm", "-u", str(compiled)], stdout=subprocess.PIPE, universal_newlines=True, check=True)
+        return set(listed.stdout.split()) - {"U"}
 
     def compiled(self, compiler: str, text: str) -> Path:
         """The object file of a driver with its runtime."""
@@ -255,10 +294,10 @@ class Freestanding(Compiled):
         subprocess.run([*words, str(RUNTIME / "vault_free.c"), "-o", str(self.folder / "driver.o")], check=True)
         return self.folder / "driver.o"
 
-    def run_driver(self, compiled: Path) -> "tuple[int, str]":
+    def run_driver(self, compiled: Path, surroundings: Path = OWN / "kernel.c") -> "tuple[int, str]":
         """The status of a run, and what the surroundings print."""
         program = self.folder / "driver"
-        words = ["cc", *WARNINGS, "-I", str(RUNTIME), str(OWN / "kernel.c"), str(compiled)]
+        words = ["cc", *WARNINGS, "-I", str(RUNTIME), "-I", str(self.folder), str(surroundings), str(compiled)]
         subprocess.run([*words, "-o", str(program)], check=True)
         done = subprocess.run([str(program)], stdout=subprocess.PIPE, universal_newlines=True, timeout=LONGEST)
         return done.returncode, done.stdout
