@@ -24,7 +24,8 @@ DRIVERS = Path(__file__).parent / "drivers"
 FAULTS = OWN / "faults.c"
 WARNINGS = ["-std=c99", "-Wall", "-Wextra", "-pedantic", "-Werror"]
 SANITIZE = ["-fsanitize=address,undefined", "-fno-sanitize-recover=all", "-g"]
-WRAPPED = ("read", "write", "recv", "send", "poll", "getrandom", "nanosleep")
+THREADS = ["-fsanitize=thread", "-fno-sanitize-recover=all", "-g", "-O1"]
+WRAPPED = ("read", "write", "recv", "send", "poll", "socket", "listen", "accept", "close", "malloc", "calloc", "getrandom", "nanosleep")
 INTERFACES = ("word", "file", "block", "block_file", "socket", "block_socket", "random", "time", "mutex")
 PROGRAMS = {
     "copy": ("file",),
@@ -79,7 +80,7 @@ void main() {
 
 
 class Compiled(unittest.TestCase):
-    """A folder for what is compiled, and the texts of a program in it."""
+    """A folder for what is compiled, and the programs in it."""
 
     def setUp(self) -> None:
         if shutil.which("cc") is None:
@@ -99,8 +100,6 @@ class Compiled(unittest.TestCase):
             self.assertEqual(cli.dispatch(["bind", "host", str(emitted), "--name", "lib", "--to", str(self.folder)]), 0)
         return emitted
 
-
-class Library(Compiled):
     def build(self, name: str) -> Path:
         """Compiles a program of examples/hosts."""
         return self.build_from(HOSTS / f"{name}.v", PROGRAMS[name])
@@ -116,6 +115,8 @@ class Library(Compiled):
         subprocess.run([*words, *map(str, files), "-o", str(program)], check=True)
         return program
 
+
+class Library(Compiled):
     def output(self, program: Path, *words: str, given: str = "", faults: Optional[str] = None) -> List[int]:
         """The numbers that a program prints; it has to end with status 0."""
         done = subprocess.run(
@@ -248,6 +249,69 @@ class Library(Compiled):
             with self.subTest(faults=faults):
                 self.assertEqual(self.output(program, given="2 20  1 1 1 0 1 0 0 0 1", faults=faults), [1, 1, 1, 1])
         self.assertEqual(self.output(program, given="1 0  1", faults="random"), [-errno.ENOSYS, 0, 1, 0, 1])
+
+    def test_threads(self) -> None:
+        interfaces = ("word", "block", "random", "time", "mutex")
+        contended = self.build_from(OWN / "contended.v", ("mutex",), OWN / "contenders.c", sanitize=THREADS)
+        self.assertEqual(self.output(contended, given="500"), [2000])
+        kit = self.build_from(OWN / "kit.v", interfaces, OWN / "waker.c", sanitize=THREADS)
+        self.assertEqual(self.output(kit, "1")[-3:], [2, 1, errno.EINVAL])
+        unlocked = self.build_from(OWN / "contended.v", ("mutex",), OWN / "contenders.c", sanitize=[*THREADS, "-DUNLOCKED"])
+        _, _, errors = self.ending(unlocked, (), "500", "")
+        self.assertIn("data race", errors)
+
+    def test_calls_that_fail(self) -> None:
+        echo = self.build("echo_blocks")
+        failures = {"socket:1": [-errno.EMFILE, 0], "listen:1": [-errno.EADDRINUSE, 0]}
+        for faults, printed in failures.items():
+            with self.subTest(faults):
+                self.assertEqual(self.output(echo, given="0 1 50\n", faults=faults), printed)
+        for faults in ("accept:1", f"accept:1:{errno.ENFILE}", f"accept:1:{errno.ENOMEM}"):
+            with self.subTest(faults):
+                self.assertEqual(self.output(echo, given="0 1 50\n", faults=faults)[1:], [1])
+        for faults in (f"accept:1:{errno.ECONNABORTED}", f"accept:1:{errno.EINTR}"):
+            with self.subTest(faults):
+                self.assertEqual(self.output(echo, given="0 1 50\n", faults=faults)[1:], [0])  # it goes on, and nobody comes
+        self.assertEqual(self.output(echo, given="0 1 50\n", faults="poll:1")[1:], [1])
+        log = self.build("log")
+        self.assertEqual(self.output(log, "4", "out", given="a\nb\nc\nd\ne\n", faults="write:3"), [4, 2, errno.ENOSPC])
+        self.assertEqual(self.output(log, "4", "out", given="a\nb\n", faults="read:1"), [0, 1, errno.EIO])
+        self.assertEqual(self.output(log, "2", "out", given="a\nb\nc\n", faults="close:1"), [2, 1, errno.EIO])
+        self.assertEqual(self.output(log, "2", "out", given="a\nb\nc\n", faults=f"close:1:{errno.EINTR}"), [6, 3, 0])
+
+    def test_memory_that_ends(self) -> None:
+        (self.folder / "from").write_text("a\nb\n")
+        runs = {
+            "copy": (("from", "to"), ""),
+            "log": (("2", "out", "from"), ""),
+            "echo_blocks": ((), "0 1 10\n"),
+            "pool": ((), "2 1  1 1 1 0"),
+        }
+        for name, (words, given) in runs.items():
+            with self.subTest(name):
+                ends = self.endings(self.build(name), words, given)
+                self.assertEqual({(status, errors) for status, _, errors in ends}, {(0, ""), (4, "")})
+                told = [output for status, output, _ in ends if status == 0 and str(errno.ENOMEM) in output.replace("-", "").split()]
+                self.assertTrue(told)
+
+    def endings(self, program: Path, words: Sequence[str], given: str) -> List["tuple[int, str, str]"]:
+        """The endings of runs in which the first call of `malloc` fails, the second, and so on, up to one more than there are in a whole run."""
+        usual = self.ending(program, words, given, "")
+        found = []
+        for function in ("calloc", "malloc"):
+            for number in range(1, 60):
+                found.append(self.ending(program, words, given, f"{function}:{number}"))
+                if found[-1] == usual:
+                    break
+        return found
+
+    def ending(self, program: Path, words: Sequence[str], given: str, faults: str) -> "tuple[int, str, str]":
+        """The status of a run, what it prints, and what it says of errors."""
+        done = subprocess.run(
+            [str(program), *words], cwd=self.folder, input=given, stdout=subprocess.PIPE, stderr=subprocess.PIPE, universal_newlines=True,
+            timeout=LONGEST, env=environment(faults),
+        )
+        return done.returncode, done.stdout, done.stderr
 
 
 class Freestanding(Compiled):
