@@ -10,7 +10,7 @@ from typing import List, Tuple
 from .certificate import BOUND, TAKEN, Case, Certificate, FunctionRow, Shape, TypeRow, bits
 from .clauses import clause_text, states_text
 from .lasting import Lasting
-from .naming import Scope, c_name
+from .naming import Scope
 
 PLAIN = {"int": "long long", "bool": "bool", "void": "void"}
 
@@ -30,22 +30,28 @@ class Host:
     def __init__(self, base: str, certificate: Certificate) -> None:
         self.base = base
         self.certificate = certificate
+        tags = Scope(f"{base}_object")
+        self.set_tags = [tags.add(f"{base}_{name}") for name, _ in certificate.sets]
+        self.type_tags = [tags.add(f"{base}_{it.name}") for it in certificate.types]
+        self.case_tags = [tags.add(f"{base}_{it.name}_case") for it in certificate.types]
+        names = Scope(f"{base}_host_begin")
+        self.function_names = [names.add(f"{base}_host_{it.name}") for it in certificate.externals]
+        self.state_names = [[names.add(f"{base}_{name}_{state}") for state in states] for name, states in certificate.sets]
+        self.case_names = [[names.add(f"{base}_{it.name}_{case.name}") for case in it.cases] for it in certificate.types]
 
     # ---- names and types
-
-    def named(self, name: str) -> str:
-        return c_name(f"{self.base}_{name}")
-
-    def member(self, of: str, name: str) -> str:
-        """The name of a state of a set, or of a case of a variant."""
-        return c_name(f"{self.base}_{of}_{name}")
 
     def type_of(self, shape: Shape) -> str:
         """The C type of a value."""
         if shape.kind in PLAIN:
             return PLAIN[shape.kind]
-        name = self.named(self.certificate.types[shape.type].name) if shape.type >= 0 else self.named("object")
+        name = self.type_tags[shape.type] if shape.type >= 0 else f"{self.base}_object"
         return f"struct {name}" + ("" if shape.kind in ("var", "ownvar") else " *")
+
+    def case_members(self, type_number: int) -> List[str]:
+        """The names of the members of a variant's struct, one for each case."""
+        scope = Scope("which")
+        return [scope.add(case.name) for case in self.certificate.types[type_number].cases]
 
     def declared(self, shape: Shape, name: str) -> str:
         """A declaration of a name of this type."""
@@ -69,7 +75,7 @@ class Host:
     def state_type(self, type_number: int) -> str:
         """The enum of a type's states; a number where the type isn't known."""
         number = self.certificate.types[type_number].state_set if type_number >= 0 else -1
-        return f"enum {self.named(self.certificate.sets[number][0])}" if number >= 0 else "int"
+        return f"enum {self.set_tags[number]}" if number >= 0 else "int"
 
     # ---- the header
 
@@ -90,39 +96,32 @@ class Host:
         return "\n".join(parts)
 
     def state_enums(self) -> List[str]:
-        found = []
-        for name, states in self.certificate.sets:
-            members = ", ".join(self.member(name, state) for state in states)
-            found.append(f"enum {self.named(name)} {{ {members} }};\n")
-        return found
+        return [f"enum {tag} {{ {', '.join(states)} }};\n" for tag, states in zip(self.set_tags, self.state_names)]
 
     def objects(self) -> List[str]:
         """What the host has for objects: it declares these structs itself."""
         found = []
-        for kind in self.certificate.types:
+        for kind, tag in zip(self.certificate.types, self.type_tags):
             if kind.kind != "variant":
-                found.append(f"/* What the host has for a {kind.name}; it declares the struct. */\nstruct {self.named(kind.name)};\n")
+                found.append(f"/* What the host has for a {kind.name}; it declares the struct. */\nstruct {tag};\n")
         return found
 
-    def answered(self) -> List[TypeRow]:
-        """The variants that externals give or take."""
-        shapes = [shape for it in self.certificate.externals for shape in (it.result, *(one for _, one in it.parameters))]
-        numbers = dict.fromkeys(shape.type for shape in shapes if shape.kind in ("var", "ownvar"))
-        return [self.certificate.types[number] for number in numbers]
-
     def variants(self) -> List[str]:
-        return [self.variant(kind) for kind in self.answered()]
+        """The variants that externals give."""
+        results = [it.result for it in self.certificate.externals]
+        return [self.variant(number) for number in dict.fromkeys(it.type for it in results if it.kind in ("var", "ownvar"))]
 
-    def variant(self, kind: TypeRow) -> str:
+    def variant(self, number: int) -> str:
         """A variant: which case it is, and what each case carries."""
-        name = self.named(kind.name)
-        lines = [f"struct {name} {{", f"    enum {{ {', '.join(self.member(kind.name, case.name) for case in kind.cases)} }} which;"]
-        for case in kind.cases:
+        kind = self.certificate.types[number]
+        tag = f"enum {self.case_tags[number]}"
+        lines = [f"{tag} {{ {', '.join(self.case_names[number])} }};\n", f"struct {self.type_tags[number]} {{", f"    {tag} which;"]
+        for case, name in zip(kind.cases, self.case_members(number)):
             members = self.members(kind, case)
             if members:
                 lines.append("    struct {")
                 lines += [f"        {declared};{note}" for _, declared, note in members]
-                lines.append(f"    }} {c_name(case.name)};")
+                lines.append(f"    }} {name};")
         return "\n".join([*lines, "};\n"])
 
     def members(self, kind: TypeRow, case: Case) -> List[Tuple[str, str, str]]:
@@ -152,7 +151,7 @@ class Host:
         parameters = [self.declared(shape, scope.add(name)) for name, shape in function.parameters]
         choices = self.choices(function, scope)
         parameters += [f"{self.state_type(it.type)} *{it.name}" for it in choices]
-        notes = [f"{it.name}: one of {states_text(self.certificate, it.type, it.states)}" for it in choices if it.states >= 0]
+        notes = [f"{it.name}: one of {states_text(self.certificate, it.type, self.certificate.mask(it.type, it.states))}" for it in choices if it.type >= 0]
         if function.result.kind in ("key", "own"):
             notes.append("NULL: there is no answer, and the run ends")
         note = "".join(f"; {it}" for it in notes)
@@ -160,7 +159,7 @@ class Host:
         return f"/* {clause_text(self.certificate, function)}{note} */\n{self.declared(function.result, self.function_name(function))}({listed});\n"
 
     def function_name(self, function: FunctionRow) -> str:
-        return c_name(f"{self.base}_host_{function.name}", [f"{self.base}_host_begin"])
+        return self.function_names[function.number]
 
     # ---- the glue
 
@@ -219,16 +218,15 @@ class Host:
         kind = self.certificate.types[result.type]
         lasting = Lasting(self.certificate)
         lines = ["vault_answer(result.which);", "switch (result.which) {"]
-        for case in kind.cases:
-            lines.append(f"case {self.member(kind.name, case.name)}:")
-            lines += [f"    {line}" for line in (*self.case_lines(kind, case), *lasting.lines_of_case(function, case))]
+        for case, name, member in zip(kind.cases, self.case_names[result.type], self.case_members(result.type)):
+            lines.append(f"case {name}:")
+            lines += [f"    {line}" for line in (*self.case_lines(kind, case, f"result.{member}"), *lasting.lines_of_case(function, case))]
             lines.append("    break;")
         return [*lines, "}"]
 
-    def case_lines(self, kind: TypeRow, case: Case) -> List[str]:
+    def case_lines(self, kind: TypeRow, case: Case, place: str) -> List[str]:
         """What an answer says of a case: states of keys, then payloads. New objects are numbered in the order of the payloads."""
         lines, made = [], 0
-        place = f"result.{c_name(case.name)}"
         for name, _, _ in self.members(kind, case):
             number = name.rpartition("_")[2]
             shape = case.payload[int(number)] if name.startswith("value_") else None

@@ -9,7 +9,7 @@ from typing import Dict, List, Tuple
 
 from .certificate import BOUND, NEW, TAKEN, Certificate, Entry, FunctionRow, Shape, bits
 from .clauses import clause_text, states_text
-from .naming import Scope, c_name
+from .naming import Scope
 
 PLAIN = {"int": "long long", "bool": "bool"}
 
@@ -22,9 +22,12 @@ class Library:
         self.text = text
         self.certificate = certificate
         self.functions = [it for it in certificate.functions if certificate.is_entry_function(it)]
+        tags, names = Scope(), Scope(f"{base}_begin", f"{base}_refused")
+        self.type_tags = [tags.add(f"{base}_{it.name}") for it in certificate.types]
+        self.function_names = {it.number: names.add(f"{base}_{it.name}") for it in self.functions}
 
     def type_name(self, type_number: int) -> str:
-        return c_name(f"{self.base}_{self.certificate.types[type_number].name}")
+        return self.type_tags[type_number]
 
     def c_type(self, shape: Shape) -> str:
         return PLAIN[shape.kind] if shape.kind in PLAIN else f"struct {self.type_name(shape.type)}"
@@ -48,10 +51,20 @@ class Library:
             *(self.handle(number) for number in self.used_types()),
             f"/* Called once, before the first call. */\nvoid {self.base}_begin(void);\n",
             f"/* Why the last call gave false; null if it didn't. */\nconst char *{self.base}_refused(void);\n",
-            *(f"/* {clause_text(self.certificate, it)} */\n{self.head(it)};\n" for it in self.functions),
+            *(f"/* {clause_text(self.certificate, it)}{self.sets_left(it)} */\n{self.head(it)};\n" for it in self.functions),
             "#ifdef __cplusplus\n}\n#endif\n\n#endif\n",
         ]
         return "\n".join(parts)
+
+    def sets_left(self, function: FunctionRow) -> str:
+        """What the clause leaves open: the states of which a call leaves an object in one."""
+        found = []
+        for entry in function.clause:
+            name, kind = function.keys[entry.key]
+            states = self.certificate.after(function, entry)
+            if entry.mode not in (TAKEN, BOUND) and not is_one(states):
+                found.append(f"; {name or '_'} is left in one of {states_text(self.certificate, kind, states)}")
+        return "".join(found)
 
     def handle(self, type_number: int) -> str:
         """The type of handles of a type's objects."""
@@ -70,8 +83,7 @@ class Library:
         listed = [f"{self.c_type(shape)} {name}" for name, shape in self.parameters(function)]
         if function.result.kind != "void":
             listed.append(f"{self.c_type(function.result)} *result")
-        name = c_name(f"{self.base}_{function.name}", [f"{self.base}_begin", f"{self.base}_refused"])
-        return f"bool {name}({', '.join(listed) or 'void'})"
+        return f"bool {self.function_names[function.number]}({', '.join(listed) or 'void'})"
 
     # ---- the code
 

@@ -1,6 +1,6 @@
 """Names of a program as names of C.
 
-Letters beyond ASCII become `u` and their number in hexadecimal. A name that is a keyword of C or C++, or that stands for something else in the same
+Letters beyond ASCII become `u` and their number in hexadecimal. A name that is a keyword of C or C++ or a macro that hosts often see, or that stands for something else in the same
 place already, gets a `_` at its end, as often as it takes."""
 from __future__ import annotations
 
@@ -14,6 +14,7 @@ KEYWORDS = frozenset(
     "operator or or_eq private protected public register reinterpret_cast restrict return short signed sizeof static static_assert static_cast struct "
     "switch template this thread_local throw true try typedef typeid typename union unsigned using virtual void volatile wchar_t while xor xor_eq".split()
 )
+MACROS = frozenset("EOF NULL assert errno linux offsetof setjmp stderr stdin stdout typeof unix".split())
 
 
 def plain(name: str) -> str:
@@ -25,7 +26,7 @@ def c_name(name: str, taken: Iterable[str] = ()) -> str:
     """A name of C for a name of a program, which is none of those that are taken."""
     made = plain(name) or "_"
     used = set(taken)
-    while made in KEYWORDS or made in used:
+    while made in KEYWORDS or made in MACROS or made in used:
         made += "_"
     return made
 

@@ -71,6 +71,55 @@ class Bindings(unittest.TestCase):
         both.write_text('#include "device.h"\n#include "device_host.h"\nint main() { device_begin(); return 0; }\n')
         subprocess.run(["g++", "-Wall", "-Wextra", "-pedantic", "-fsyntax-only", "-I", str(self.folder), str(both)], check=True)
 
+    def test_names_that_clash(self) -> None:
+        source = self.folder / "odd.v"
+        source.write_text(ODD, encoding="utf-8")
+        text = self.emit(source)
+        self.compile_bindings(text)
+        both = self.folder / "both.cpp"
+        both.write_text('#include <cerrno>\n#include "odd.h"\nint main() { struct odd_schlufcssel_ s; return !odd_begin_(&s); }\n', encoding="utf-8")
+        host = self.folder / "host.c"
+        host.write_text(ODD_HOST, encoding="utf-8")
+        for words in (["g++", str(both)], ["cc", "-std=gnu99", str(host)], ["g++", "-x", "c++", str(host)]):
+            if shutil.which(words[0]):
+                subprocess.run([words[0], "-Wall", "-Wextra", "-Werror", "-fsyntax-only", "-I", str(self.folder), *words[1:]], check=True)
+
+    def test_states_that_a_call_leaves_are_a_set_in_the_header(self) -> None:
+        text = self.emit(DRIVERS / "valve.v")
+        for side in ("host", "library"):
+            self.assertEqual(self.vault("bind", side, str(text), "--to", str(self.folder)), 0)
+        library, host = ((self.folder / name).read_text() for name in ("valve.h", "valve_host.h"))
+        self.assertIn("/* [M@shut->{running,stuck}, N]; M is left in one of @{running,stuck}; N is left in one of @{shut,running,stuck} */", library)
+        self.assertIn("state_of_M: one of @{running,stuck}; state_of_N: one of @{shut,running,stuck} */", host)
+        self.assertIn("enum valve_flow state_0; /* one of @{shut,running} */", host)
+
+    def test_answers_outside_the_clause(self) -> None:
+        source = self.folder / "asked.v"
+        source.write_text(ASKED)
+        text = self.emit(source)
+        self.assertEqual(self.vault("bind", "host", str(text), "--to", str(self.folder)), 0)
+        right = "*state_of_D = asked_power_on; return (struct asked_found) {.which = asked_found_None};"
+        # each of these isn't compiled: a number, a case that there isn't, nothing, a state
+        for wrong in ("return 7;", "return (struct asked_found) {.which = asked_found_Lost};", "return;", "return asked_power_on;"):
+            with self.subTest(wrong):
+                self.assertNotEqual(self.asked(text, wrong).returncode, 0)
+        self.assertEqual(self.asked(text, right).returncode, 0)
+        runs = {right: (0, "3\n"), right.replace("_on", "_hot"): (0, "3\n"), right.replace("_on", "_off"): (11, "answer 2 bad\n")}
+        runs[right.replace("asked_power_on", "(enum asked_power) 77")] = (11, "answer 2 bad\n")
+        for answer, ending in runs.items():
+            with self.subTest(answer):
+                self.asked(text, answer)
+                done = subprocess.run([str(self.folder / "asked")], stdout=subprocess.PIPE, universal_newlines=True)
+                self.assertEqual((done.returncode, done.stdout), ending)
+
+    def asked(self, text: Path, answer: str) -> "subprocess.CompletedProcess[str]":
+        """Compiles a host of which one external answers so."""
+        host = self.folder / "answers.c"
+        host.write_text(ASKED_HOST.replace("ANSWER", answer))
+        files = [RUNTIME / name for name in ("vault_main.c", "vault_rt.c", "numbers.c", "vault_bind.c")] + [self.folder / "asked_host.c", host]
+        words = ["cc", *drivers.FLAGS, f'-DVAULT_PROGRAM="{text}"', "-I", str(self.folder), "-I", str(RUNTIME)]
+        return subprocess.run([*words, *map(str, files), "-o", str(self.folder / "asked")], stderr=subprocess.PIPE, universal_newlines=True)
+
     def test_a_file_that_is_not_verified_is_refused(self) -> None:
         text = self.emit(EXAMPLES / "device.v")
         text.write_text(text.read_text().replace("p0 -> n [ 1 ] = 0", "p0 -> n [ 1 ] = 1"))
@@ -193,6 +242,102 @@ class Bindings(unittest.TestCase):
                 self.assertEqual(said.returncode == 0, error == "")
                 self.assertIn(f"{error} may be told of an object that is gone" if error else "", said.stderr)
 
+
+# names that are macros or keywords of C++, or that stand for one name of C
+ODD = """\
+stateset a { b_c, linux }
+stateset a_b { c }
+abstract object;
+variant which {
+    'which(int),
+    'errno(int),
+    'begin
+}
+variant host {
+    'class
+}
+struct schlüssel@a {
+    int n;
+}
+struct schlufcssel@a {
+    int n;
+}
+extern which begin(int errno, bool unix);
+extern host class(int template);
+extern tracked(K) object made(int stdin) [new K];
+extern void drop(tracked(K) object this) [-K];
+tracked(K) schlufcssel begin_() [new K@b_c] {
+    tracked(N) schlufcssel s = new schlufcssel { n: 1 };
+    return s;
+}
+tracked(K) schlüssel refused(int result, bool virtual) [new K@b_c] {
+    tracked(N) schlüssel s = new schlüssel { n: result };
+    return s;
+}
+void private(tracked(K) schlüssel objects, int errno) [-K@{ b_c, linux }] {
+    release objects;
+}
+void main() {}
+"""
+
+ODD_HOST = """\
+#include <errno.h>
+#include <stddef.h>
+#include "odd_host.h"
+struct odd_object_ { int n; };
+void odd_host_begin(void) {}
+struct odd_which odd_host_begin_(long long errno_, bool unix_)
+{
+    struct odd_which given;
+    given.which = unix_ ? odd_which_errno : odd_which_which;
+    given.errno_.value_0 = errno_;
+    given.which_.value_0 = odd_a_b_c;
+    return given;
+}
+struct odd_host odd_host_class(long long template_)
+{
+    struct odd_host given;
+    given.which = odd_host_class_;
+    (void) template_;
+    return given;
+}
+struct odd_object_ *odd_host_made(long long stdin_) { (void) stdin_; return NULL; }
+void odd_host_drop(struct odd_object_ *this_) { (void) this_; (void) odd_a_b_c_; }
+"""
+
+ASKED = """\
+stateset power { off, on, hot }
+abstract dev@power;
+variant found {
+    'None,
+    'Some(int)
+}
+extern tracked(D) dev make() [new D@off];
+extern found ask(tracked(D) dev d) [D@off->{ on, hot }];
+extern void drop(tracked(D) dev d) [-D];
+void main() {
+    tracked(D) dev d = make();
+    found f = ask(d);
+    drop(d);
+    print(3);
+}
+"""
+
+ASKED_HOST = """\
+#include <stddef.h>
+#include "asked_host.h"
+struct asked_dev { int n; };
+static struct asked_dev one;
+void asked_host_begin(void) {}
+struct asked_dev *asked_host_make(void) { return &one; }
+struct asked_found asked_host_ask(struct asked_dev *d, enum asked_power *state_of_D)
+{
+    (void) d;
+    (void) state_of_D;
+    ANSWER
+}
+void asked_host_drop(struct asked_dev *d) { (void) d; }
+"""
 
 PACKETS = """\
 abstract packet;
