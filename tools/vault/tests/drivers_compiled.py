@@ -3,9 +3,10 @@ from __future__ import annotations
 
 import random
 import subprocess
+from concurrent.futures import ThreadPoolExecutor
 from dataclasses import dataclass
 from pathlib import Path
-from typing import List, Tuple
+from typing import List, Sequence, Tuple
 
 from vault import paths, programs
 from vault.bind import certificate
@@ -94,11 +95,11 @@ ANSWERS = {"valve": ("0", "1", "1 0", "1 1", "2 2", "0 0", "0 1", "1 7")}
 
 @dataclass(frozen=True)
 class Driver:
-    """A driver: its heads, its source, and its compiled library."""
+    """A driver: its heads, its source, and its library as each compiler makes it."""
 
     source: Path
     heads: Certificate
-    program: Path
+    programs: Tuple[Path, ...]
 
     @property
     def usual_answers(self) -> Tuple[str, ...]:
@@ -140,8 +141,8 @@ def branch(base: str, library: Library, function: FunctionRow) -> str:
     return "\n".join(f"        {line}" for line in [*lines, "}"] if line)
 
 
-def build(source: Path, folder: Path, compiler: str, more: Tuple[str, ...] = ()) -> Driver:
-    """Emits, binds and compiles a driver with the harness."""
+def build(source: Path, folder: Path, compilers: Sequence[Sequence[str]]) -> Driver:
+    """Emits and binds a driver, and compiles it with the harness by each compiler, a name with flags."""
     vaultc = programs.take("vaultc")
     base = source.stem
     text = folder / f"{base}.c"
@@ -153,13 +154,19 @@ def build(source: Path, folder: Path, compiler: str, more: Tuple[str, ...] = ())
     calls = "\n".join(branch(base, library, it) for it in heads.functions if heads.is_entry_function(it))
     harness = folder / f"{base}_harness.c"
     harness.write_text(HARNESS.format(base=base, calls=calls), encoding="utf-8")
-    program = folder / f"{base}_{compiler}"
-    files = [RUNTIME / name for name in ("vault_rt.c", "numbers.c", "replay.c", "vault_library.c")]
+    made = tuple(compiled(folder, base, number, words) for number, words in enumerate(compilers))
+    return Driver(source, heads, made)
+
+
+def compiled(folder: Path, base: str, number: int, compiler: Sequence[str]) -> Path:
+    """The harness with the library, by a compiler."""
+    program, library = folder / f"{base}_{number}", str(folder / f"{base}_{number}.o")
+    files = [folder / f"{base}_harness.c", *(RUNTIME / name for name in ("vault_rt.c", "numbers.c", "replay.c", "vault_library.c"))]
+    own = ["-I", str(folder), "-I", str(RUNTIME)]
     # the harness is of the tests, and says what it likes of the standard's library
-    subprocess.run([compiler, *FLAGS, *more, "-I", str(folder), "-I", str(RUNTIME), "-c", str(folder / f"{base}_lib.c"), "-o", str(folder / "lib.o")], check=True)
-    words = [compiler, "-std=gnu99", *more, "-I", str(folder), "-I", str(RUNTIME), str(harness), str(folder / "lib.o"), *map(str, files), "-o", str(program)]
-    subprocess.run(words, check=True)
-    return Driver(source, heads, program)
+    subprocess.run([*compiler, *FLAGS, *own, "-c", str(folder / f"{base}_lib.c"), "-o", library], check=True)
+    subprocess.run([*compiler, "-std=gnu99", *own, *map(str, files), library, "-o", str(program)], check=True)
+    return program
 
 
 def random_call(driver: Driver, chance: random.Random, made: int) -> str:
@@ -190,25 +197,30 @@ def random_answers(driver: Driver, chance: random.Random) -> List[str]:
     return [chance.choice(odd if chance.random() < 0.2 else driver.usual_answers) for _ in range(chance.randint(0, 8))]
 
 
-def outcomes(driver: Driver, calls: List[str], answers: List[str], folder: Path) -> Tuple[str, str]:
-    """What `vaultc host` and the compiled driver write of a list of calls, without the line of what is held at the end."""
-    listed, given = folder / "calls", folder / "answers"
+def outcomes(driver: Driver, calls: List[str], answers: List[str], folder: Path, name: str = "list") -> Tuple[str, List[str]]:
+    """What `vaultc host` and the compiled drivers write of a list of calls, without the line of what is held at the end."""
+    listed, given = folder / f"{name}.calls", folder / f"{name}.answers"
     listed.write_text("".join(f"{it}\n" for it in calls), encoding="utf-8")
     given.write_text("".join(f"{it}\n" for it in answers), encoding="utf-8")
     answer = programs.take("vaultc").ask(["host", str(driver.source), str(listed), "--answers", str(given)])
     host = "".join(f"{line}\n" for line in answer.lines if not line.startswith("held"))
-    done = subprocess.run([str(driver.program), str(listed)], env={"VAULT_ANSWERS": str(given), "ASAN_OPTIONS": "detect_leaks=0"}, stdout=subprocess.PIPE, universal_newlines=True)
-    return host, done.stdout
+    environment = {"VAULT_ANSWERS": str(given), "ASAN_OPTIONS": "detect_leaks=0"}
+    runs = [
+        subprocess.run([str(it), str(listed)], env=environment, stdout=subprocess.PIPE, stderr=subprocess.STDOUT, universal_newlines=True)
+        for it in driver.programs
+    ]
+    return host, [it.stdout for it in runs]
 
 
-def differences(driver: Driver, count: int, seed: int, folder: Path) -> List[Tuple[List[str], str, str]]:
-    """The lists of calls, of so many random ones, of which the two write different lines."""
+def differences(driver: Driver, count: int, seed: int, folder: Path, jobs: int = 1) -> List[Tuple[List[str], str, str]]:
+    """The lists of calls, of so many random ones, of which a compiled driver writes other lines than `vaultc host`."""
     chance = random.Random(seed)
-    found = []
-    for _ in range(count):
-        calls = random_list(driver, chance)
-        answers = random_answers(driver, chance)
-        host, compiled = outcomes(driver, calls, answers, folder)
-        if host != compiled:
-            found.append((calls, host, compiled))
-    return found
+    lists = [(random_list(driver, chance), random_answers(driver, chance)) for _ in range(count)]
+
+    def compared(number: int) -> List[Tuple[List[str], str, str]]:
+        calls, answers = lists[number]
+        host, found = outcomes(driver, calls, answers, folder, f"{driver.source.stem}_{number}")
+        return [(calls, host, it) for it in found if it != host]
+
+    with ThreadPoolExecutor(jobs) as pool:
+        return [it for found in pool.map(compared, range(count)) for it in found]

@@ -134,27 +134,26 @@ class Bindings(unittest.TestCase):
 
     def test_libraries_do_what_the_host_command_does(self) -> None:
         for source in (EXAMPLES / "device.v", EXAMPLES / "tutorial" / "10_driver.v", DRIVERS / "pump.v", DRIVERS / "valve.v"):
-            for compiler in compilers():
-                with self.subTest(source.name, compiler=compiler):
-                    self.assertEqual(drivers.differences(self.driver(source, compiler), LISTS, 59, self.folder), [])
+            with self.subTest(source.name):
+                self.assertEqual(drivers.differences(self.driver(source), LISTS, 59, self.folder), [])
 
-    def driver(self, source: Path, compiler: str) -> drivers.Driver:
-        """A driver with its library, under a name that no file of runtime/ has."""
+    def driver(self, source: Path) -> drivers.Driver:
+        """A driver with its library by each compiler, under a name that no file of runtime/ has."""
         name = self.folder / f"d_{source.name}"
         shutil.copyfile(source, name)
-        return drivers.build(name, self.folder, compiler, SANITIZE)
+        return drivers.build(name, self.folder, [(compiler, *SANITIZE) for compiler in compilers()])
 
     def test_a_library_knows_the_state_that_a_clause_leaves_open(self) -> None:
-        pump = self.driver(DRIVERS / "pump.v", "cc")
+        pump = self.driver(DRIVERS / "pump.v")
         calls = ["install 1 1", "install 1 1", "is_faster #1 #2", "remove #2", "start #1", "is_faster #1 #1"]
         host, compiled = drivers.outcomes(pump, calls, [], self.folder)
-        self.assertEqual(compiled.splitlines()[-3:], ["!remove #2", "!start #1", "call 6 bad"])
-        self.assertEqual(host, compiled)
-        valve = self.driver(DRIVERS / "valve.v", "cc")
+        self.assertEqual(host.splitlines()[-3:], ["!remove #2", "!start #1", "call 6 bad"])
+        self.assertEqual(set(compiled), {host})
+        valve = self.driver(DRIVERS / "valve.v")
         calls = ["connect", "connect", "move #1 #2", "mend #1", "test #2", "mend #2", "test #2", "leave #2", "leave #1"]
         host, compiled = drivers.outcomes(valve, calls, ["0", "1", "2 2", "", "1 7", "", "0 1", "", ""], self.folder)
-        self.assertEqual(compiled.splitlines()[-2:], ["!leave #1", "@detach #1"])
-        self.assertEqual(host, compiled)
+        self.assertEqual(host.splitlines()[-2:], ["!leave #1", "@detach #1"])
+        self.assertEqual(set(compiled), {host})
 
     def test_a_text_that_keeps_states_is_the_emitted_one_with_lines(self) -> None:
         text = self.emit(DRIVERS / "valve.v")
