@@ -6,6 +6,7 @@ from dataclasses import dataclass
 from typing import List, Optional
 
 from . import paths, programs
+from .errors import NoProgram
 from .held import Table, read_tables
 from .report import KeyFault, Report, read_reports
 
@@ -60,6 +61,14 @@ def has_questions() -> bool:
     if os.environ.get("VAULTQ") or programs.find("vaultq"):
         return True
     return (paths.TOP / "crates" / "vaultq").is_dir() and not os.environ.get("VAULTC")
+
+
+def find() -> Asker:
+    """The programs that are there; NoProgram if there is no `vaultc`."""
+    vaultc, vaultq = programs.known("vaultc"), programs.known("vaultq")
+    if vaultc is None:
+        raise NoProgram("there is no vaultc of these sources")
+    return Asker(vaultc, vaultq)
 
 
 def take() -> Asker:

@@ -15,10 +15,12 @@ from .kinds import kind_picture
 from .lint import lint
 from .picture import Picture, View, accepted
 from .probes import Probes
+from .repairs import repairs
 from .report import Accepted, KeyFault, Limit, Report, RuleFault, TextFault
 from .since import Knowledge
 from .source import Source, is_regular
 from .texts import limit_picture, other_picture, text_picture, token_picture
+from .trying import Trial
 
 
 @dataclass(frozen=True)
@@ -33,10 +35,13 @@ class Judged:
 
 @dataclass(frozen=True)
 class Wishes:
-    """How much is asked: only the first fault; warnings too."""
+    """How much is asked: only the first fault; warnings too; cures, which are tried one by one; other changes of the text that would do, if
+    no cure changes it."""
 
     first: bool = False
     lint: bool = False
+    cures: bool = True
+    repairs: bool = False
 
 
 def jobs() -> int:
@@ -55,8 +60,8 @@ def accepted_words(source: Source, report: Accepted) -> Picture:
     return accepted(source, report, f"no errors in {counted(report.count, 'function')}")
 
 
-def fault_picture(view: View, fault: KeyFault, tables: Optional[List[Table]], asker: Optional[Asker], faults: int) -> Picture:
-    """The picture of a fault on keys with its cures; `faults` is how many the text has."""
+def fault_picture(view: View, fault: KeyFault, tables: Optional[List[Table]], asker: Optional[Asker], trial: Optional[Trial]) -> Picture:
+    """The picture of a fault on keys, with its cures if they are tried."""
     name = view.source.name
 
     def probing(story: KeyStory) -> Knowledge:
@@ -64,17 +69,28 @@ def fault_picture(view: View, fault: KeyFault, tables: Optional[List[Table]], as
 
     story = KeyStory(view, fault, tables, probing if asker and not tables else None)
     picture = key_picture(story)
-    if asker is None:
-        return picture
-    return replace(picture, cures=cures(story, lambda text: asker.faults(name, text), faults, jobs()))
+    return replace(picture, cures=cures(story, trial)) if trial else picture
 
 
 def picture_of(
-    view: View, report: Report, status: int, tables: Optional[List[Table]], asker: Optional[Asker] = None, faults: int = 1
+    view: View,
+    report: Report,
+    status: int,
+    tables: Optional[List[Table]] = None,
+    asker: Optional[Asker] = None,
+    trial: Optional[Trial] = None,
 ) -> Picture:
-    """The picture of one report on a text."""
+    """The picture of one report on a text. Changes of the text that it offers were tried; without a trial it offers none."""
     if isinstance(report, KeyFault) and view.declarations:
-        return fault_picture(view, report, tables, asker, faults)
+        return fault_picture(view, report, tables, asker, trial)
+    found = other_picture_of(view, report, status, asker)
+    if trial:
+        return replace(found, cures=trial.with_words(report, found.cures))
+    return replace(found, cures=tuple(replace(cure, edits=()) for cure in found.cures))
+
+
+def other_picture_of(view: View, report: Report, status: int, asker: Optional[Asker]) -> Picture:
+    """The picture of a report that isn't on keys, with changes that weren't tried."""
     if isinstance(report, RuleFault):
         return kind_picture(view, report)
     if isinstance(report, TextFault):
@@ -94,8 +110,10 @@ def pictures_of(view: View, reply: Reply, asker: Asker, wishes: Wishes, text: Op
     has_faults = any(isinstance(one, KeyFault) for one in reports)
     is_program = has_faults or any(isinstance(one, Accepted) for one in reports)
     tables = asker.tables(view.source.name, text) if has_faults or wishes.lint and is_program else None
-    faults = len(reply.reports)
-    found = [picture_of(view, report, reply.status, tables, asker, faults) for report in reports]
+    trial = Trial(view, reply.reports, lambda changed: asker.faults(view.source.name, changed), jobs()) if wishes.cures else None
+    found = [picture_of(view, report, reply.status, tables, asker, trial) for report in reports]
+    if wishes.repairs and trial:
+        found = [replace(one, repairs=repairs(trial, report, one)) for one, report in zip(found, reports)]
     if wishes.lint:
         found += lint(view, tables)
     return found or [other_picture(view, Report(""), reply.status)]
@@ -108,6 +126,15 @@ def judge(name: str, asker: Asker, wishes: Wishes) -> Judged:
     reply = asker.faults(name, text if text else None)
     count = next((one.count for one in reply.reports if isinstance(one, Accepted)), None)
     return Judged(source, reply.status, pictures_of(View(source), reply, asker, wishes, text), count)
+
+
+def judge_text(source: Source, asker: Asker, wishes: Wishes) -> Judged:
+    """Judges a text that need not be that of its file."""
+    # what is asked may not be empty: a blank says nothing more
+    data = source.data or b"\n"
+    reply = asker.faults(source.name, data)
+    count = next((one.count for one in reply.reports if isinstance(one, Accepted)), None)
+    return Judged(source, reply.status, pictures_of(View(source), reply, asker, wishes, data), count)
 
 
 def judge_all(names: Sequence[str], one: Callable[[str], Judged], jobs: int) -> Iterator[Tuple[int, Judged]]:

@@ -3,73 +3,20 @@ tried: the program is asked of the changed text, and what still has the fault, o
 from __future__ import annotations
 
 import re
-from concurrent.futures import ThreadPoolExecutor
-from dataclasses import replace
-from typing import Callable, Iterator, List, Optional, Sequence, Tuple
+from typing import Iterator, List, Optional, Sequence, Tuple
 
 from . import syntax as s
-from .ask import Reply
 from .declarations import Declarations
+from .edits import apply, drop, indent, put_after, put_before
 from .key_faults import KeyStory
 from .parser import parse
-from .picture import Cure, Edit, View
-from .report import Accepted, KeyFault
+from .picture import Cure, Edit
 from .since import is_about_states
-from .source import Source
+from .trying import Trial
 from .uses import call_of, clause_entry, field_of, right_side
 
-# what the program says of a text
-Try = Callable[[bytes], Reply]
-MOST_TRIED = 6
+MOST_TRIED = 8
 MOST_SHOWN = 2
-
-
-# ---- changes of a text
-
-
-def indent(text: str, offset: int) -> str:
-    """The blanks at the beginning of the line of a character."""
-    start = text.rfind("\n", 0, offset) + 1
-    end = start
-    while end < len(text) and text[end] in " \t":
-        end += 1
-    return text[start:end]
-
-
-def begins_line(text: str, offset: int) -> bool:
-    return not text[text.rfind("\n", 0, offset) + 1 : offset].strip()
-
-
-def put_before(text: str, offset: int, statements: Sequence[str], deeper: bool = False) -> Edit:
-    """Statements in lines of their own before the statement or the brace at a character; on the same line if it begins none."""
-    if not begins_line(text, offset):
-        return Edit(s.Span(offset, offset), " ".join(statements) + " ")
-    start = text.rfind("\n", 0, offset) + 1
-    blanks = indent(text, offset) + ("    " if deeper else "")
-    return Edit(s.Span(start, start), "".join(f"{blanks}{one}\n" for one in statements))
-
-
-def put_after(text: str, span: s.Span, statements: Sequence[str]) -> Edit:
-    """Statements in lines of their own after a statement."""
-    blanks = indent(text, span.start)
-    return Edit(s.Span(span.end, span.end), "".join(f"\n{blanks}{one}" for one in statements))
-
-
-def drop(text: str, span: s.Span) -> Edit:
-    """Takes a statement out, with its line if it has one of its own."""
-    start = text.rfind("\n", 0, span.start) + 1
-    end = text.find("\n", span.end)
-    end = len(text) if end < 0 else end + 1
-    if text[start : span.start].strip() or text[span.end : end].strip():
-        return Edit(span, "")
-    return Edit(s.Span(start, end), "")
-
-
-def apply(text: str, edits: Sequence[Edit]) -> str:
-    """The text with these changes, which don't overlap."""
-    for edit in sorted(edits, key=lambda one: one.span.start, reverse=True):
-        text = text[: edit.span.start] + edit.text + text[edit.span.end :]
-    return text
 
 
 def in_words(statements: Sequence[str]) -> str:
@@ -419,30 +366,9 @@ def variable_advice(story: KeyStory) -> List[str]:
     return [f"hand {story.name} over, or take the object out, `tracked(K) T x = {story.fault.key};`, and end it"]
 
 
-def is_cured(story: KeyStory, reply: Reply, before: int, text: str) -> bool:
-    """Whether the fault is gone from a changed text, and no other has come."""
-    faults = [report for report in reply.reports if isinstance(report, KeyFault)]
-    if any(not isinstance(report, (KeyFault, Accepted)) for report in reply.reports) or not reply.reports:
-        return False
-    if not faults:
-        return True
-    view = View(Source("", text.encode("utf-8", "replace")))
-    if view.declarations is None or len(faults) >= before:
-        return False
-    name = story.function.name.text
-    keys = [(view.declarations.function_at(view.offset(fault.place)), fault.key) for fault in faults]
-    return all(function is None or (function.name.text, key) != (name, story.fault.key) for function, key in keys)
-
-
-def cures(story: KeyStory, tries: Try, faults: int, jobs: int) -> Tuple[Cure, ...]:
-    """The changes that cure a fault, as they were tried; advice if none does. `faults` is how many the text has."""
+def cures(story: KeyStory, trial: Trial) -> Tuple[Cure, ...]:
+    """The changes that cure a fault, as they were tried; advice if none does."""
     text = story.view.source.text
     candidates = [cure for cure in Candidates(story).all() if parse(apply(text, cure.edits)) is not None][:MOST_TRIED]
-
-    def helps(cure: Cure) -> bool:
-        changed = apply(text, cure.edits)
-        return is_cured(story, tries(changed.encode("utf-8", "replace")), faults, changed)
-
-    with ThreadPoolExecutor(jobs) as pool:
-        helped = [replace(cure, tested=True) for cure, good in zip(candidates, pool.map(helps, candidates)) if good]
-    return tuple(helped[:MOST_SHOWN]) or tuple(Cure(text) for text in advice(story))
+    helped = trial.tested(story.fault, candidates, MOST_SHOWN)
+    return tuple(helped) or tuple(Cure(words) for words in advice(story))

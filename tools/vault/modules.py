@@ -2,21 +2,25 @@
 files."""
 from __future__ import annotations
 
+import tempfile
 from dataclasses import dataclass, replace
+from pathlib import Path
 from typing import Dict, List, Optional, Sequence, Tuple
 
 from . import syntax as s
-from .ask import Asker, Reply, ask_words
+from .ask import STANDARD_INPUT, Asker, Reply, ask_words
+from .held import Table
 from .judge import Judged, Wishes, accepted_words, picture_of, pictures_of
 from .parser import parse
 from .picture import Cure, Edit, Label, Picture, View, Way
-from .report import Accepted, Clash, KeyFault, Report, RuleFault
+from .report import Accepted, Clash, KeyFault, Report, RuleFault, read_reports
 from .rules import all_rules
 from .source import Source
 
 MAIN = "void main() {\n}\n"
 # rules on what a module gives; they aren't rules on the view as a text
 OF_MODULES = (47, 48, 49, 50)
+NOTHING = "an empty module"
 
 
 @dataclass(frozen=True)
@@ -40,9 +44,23 @@ class JoinedView(View):
                 return piece.source, min(piece.span.start + offset - piece.at, piece.span.end)
         return self.pieces[0].source, 0
 
+    def tables_at_home(self, tables: Sequence[Table], source: Source) -> List[Table]:
+        """Tables of the view with their places in one of the files; the others are left out."""
+        found = []
+        for table in tables:
+            lines = []
+            for where, items in table.lines:
+                file, offset = self.origin(self.offset(where))
+                if file is source:
+                    lines.append((source.place(offset), items))
+            found.append(replace(table, lines=lines))
+        return found
+
     def home(self, source: Source, picture: Picture) -> Picture:
         """A picture whose changes of the text are those of its own file; cures that change another keep their words alone."""
-        return replace(picture, cures=tuple(self.cure_at_home(source, cure) for cure in picture.cures))
+        repairs = [self.cure_at_home(source, cure) for cure in picture.repairs]
+        cures = tuple(self.cure_at_home(source, cure) for cure in picture.cures)
+        return replace(picture, cures=cures, repairs=tuple(cure for cure in repairs if cure.edits))
 
     def cure_at_home(self, source: Source, cure: Cure) -> Cure:
         edits: List[Edit] = []
@@ -128,12 +146,42 @@ def refusal(asker: Asker, reply: Reply, interface: Source, modules: Sequence[Sou
 
 def judge_module(interface_name: str, name: str, asker: Asker, wishes: Wishes) -> Judged:
     """Judges a module beside an interface."""
-    interface, module = Source.read(interface_name), Source.read(name)
     reply = ask_words(asker.vaultc, ["module", interface_name, name])
+    return judged(asker, reply, Source.read(interface_name), Source.read(name), wishes)
+
+
+def judged(asker: Asker, reply: Reply, interface: Source, module: Source, wishes: Wishes) -> Judged:
+    """What a reply on a module beside an interface says."""
     first = reply.reports[0] if reply.reports else None
     if isinstance(first, Accepted):
         return Judged(module, reply.status, [accepted_words(module, first)], first.count)
     return Judged(module, reply.status, refusal(asker, reply, interface, [module], wishes))
+
+
+def judge_texts(asker: Asker, interface: Source, module: Source, wishes: Wishes) -> Judged:
+    """Judges texts that need not be those of their files. If both have one name, the text is an interface, which is judged by itself."""
+    beside = Source(NOTHING, b"\n") if module.name == interface.name else module
+    outer = module if beside is not module else interface
+    return judged(asker, ask_texts(asker, outer, beside), outer, beside, wishes)
+
+
+def ask_texts(asker: Asker, interface: Source, module: Source) -> Reply:
+    """What the program says of texts that need not be those of their files; of an interface by itself if both have one name."""
+    text = b"" if module.name == interface.name else module.data
+    with tempfile.TemporaryDirectory() as folder:
+        file = Path(folder) / "interface.v"
+        file.write_bytes(interface.data)
+        answer = asker.vaultc.ask(["module", str(file), STANDARD_INPUT], input=text or b"\n")
+    lines = [at_home(line, {str(file): interface.name, STANDARD_INPUT: module.name}) for line in answer.lines]
+    return Reply(answer.status, lines, read_reports(lines))
+
+
+def at_home(line: str, names: Dict[str, str]) -> str:
+    """A line with the name at its end as the person knows it."""
+    for asked, name in names.items():
+        if line.endswith(f" in {asked}"):
+            return line[: -len(asked)] + name
+    return line
 
 
 # ---- the rules on what a module gives

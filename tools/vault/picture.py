@@ -49,11 +49,17 @@ class Cure:
     tested: bool = False
 
 
+def title(text: str) -> str:
+    """The words of a cure that changes the text, as what is done: `insert unlock(l);`."""
+    return ("insert " if text.startswith("`") else "") + text.replace("`", "")
+
+
 @dataclass(frozen=True)
 class Picture:
     """An error, a warning or another message of a file.
 
-    `rule` names the kind of error, `report` are the program's own words, `link` is the part of docs/ that explains it."""
+    `rule` names the kind of error, `report` are the program's own words, `link` is the part of docs/ that explains it. `repairs` are changes
+    of the text that were tried, for editors; they may be less than what is meant."""
 
     source: Source
     severity: str
@@ -65,6 +71,11 @@ class Picture:
     notes: Tuple[str, ...] = ()
     cures: Tuple[Cure, ...] = ()
     link: str = ""
+    repairs: Tuple[Cure, ...] = ()
+
+    def changes(self) -> Tuple[Cure, ...]:
+        """The cures that change the text, or else other changes of it; all were tried."""
+        return tuple(cure for cure in self.cures if cure.edits) or self.repairs
 
     def labels(self) -> Iterator[Label]:
         """All labels, those of the ways and the fault's."""
@@ -76,14 +87,16 @@ class Picture:
 
 @dataclass(frozen=True)
 class View:
-    """A text that the program is asked of, and what it declares. A view of several files says where its characters come from."""
+    """A text that the program is asked of, and what it declares; a text that is too long isn't read for that. A view of several files says
+    where its characters come from."""
 
     source: Source
     program: Optional[Program] = field(init=False)
     declarations: Optional[Declarations] = field(init=False)
+    is_read: bool = True
 
     def __post_init__(self) -> None:
-        program = parse(self.source.text)
+        program = parse(self.source.text) if self.is_read else None
         object.__setattr__(self, "program", program)
         object.__setattr__(self, "declarations", Declarations(program) if program else None)
 

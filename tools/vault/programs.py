@@ -84,6 +84,12 @@ def take_all(names: Sequence[str]) -> Dict[str, Program]:
     return {name: it if isinstance(it, Program) else _of_kept(it) for name, it in found.items() if it}
 
 
+def known(name: str) -> Optional[Program]:
+    """The program of this name if it need not be compiled; else None."""
+    found = _told(name) or find(name)
+    return found if isinstance(found, Program) or found is None else _of_kept(found)
+
+
 def _of_kept(kept: store.Kept) -> Program:
     kept.touch()
     return Program(kept.note.name, kept.path, kept.note.proved, kept.command)

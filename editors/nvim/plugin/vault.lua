@@ -1,4 +1,5 @@
 -- Starts the language server `vault lsp` for Vault files. With Neovim 0.10 and later the keys that are held stand at the end of each line.
+-- The list g:vault_lsp_options has more words for the server, as { "--seconds", "30" }.
 local function command()
   local here = debug.getinfo(1, "S").source:sub(2)
   local beside = vim.fn.fnamemodify(here, ":p:h:h:h:h") .. "/bin/vault"
@@ -8,8 +9,12 @@ end
 local vault = command()
 local client
 
+local function command_line()
+  return vim.list_extend({ vault, "lsp" }, vim.g.vault_lsp_options or {})
+end
+
 local function attach(buffer)
-  local settings = { name = "vault", cmd = { vault, "lsp" }, root_dir = vim.fn.fnamemodify(vim.api.nvim_buf_get_name(buffer), ":p:h") }
+  local settings = { name = "vault", cmd = command_line(), root_dir = vim.fn.fnamemodify(vim.api.nvim_buf_get_name(buffer), ":p:h") }
   if vim.lsp.start then
     vim.lsp.start(settings, { bufnr = buffer })
   else

@@ -1,7 +1,8 @@
 """Says whether programs follow the rules on names, on types and on keys.
 
 Shows each error with its place, what led to it and what cures it. The status is that of `vaultc check`, the greatest of several
-files: 0 if all are accepted."""
+files: 0 if all are accepted. With --fix the first cure of each error is carried out in the file, if the answer is yes; what is left is
+shown. A cure changes a file only if the program was asked of the changed text, and no longer has the error."""
 from __future__ import annotations
 
 import argparse
@@ -9,8 +10,11 @@ import functools
 import sys
 
 from .. import ask, options as shared, programs
+from ..ask import Asker
 from ..cli import Parser
-from ..judge import Wishes, jobs, judge, judge_all
+from ..fixing import fix
+from ..judge import Judged, Wishes, jobs, judge, judge_all
+from ..picture import Cure, Picture, title
 
 COMMAND = "check"
 
@@ -20,6 +24,8 @@ def configure(parser: Parser) -> None:
     parser.add_argument("files", metavar="FILE", nargs="+", help="a Vault file; `-` is standard input")
     parser.add_argument("--first", action="store_true", help="only the first error of each file")
     parser.add_argument("--lint", action="store_true", help="warnings too, on what is permitted and often a mistake")
+    parser.add_argument("--fix", action="store_true", help="carry out the first cure of each error, each if the answer is yes")
+    parser.add_argument("--yes", action="store_true", help="with --fix: don't ask")
     shared.add_options(parser)
 
 
@@ -34,10 +40,28 @@ def run_as(command: str, options: argparse.Namespace) -> int:
     if options.format == "plain":
         return plain(command, names)
     asker = ask.take()
+    if options.fix:
+        return shared.write([fix_file(name, asker, options.yes) for name in names], options)
     wishes = Wishes(options.first, options.lint)
     one = functools.partial(judge, asker=asker, wishes=wishes)
     judged = shared.progress(judge_all(names, one, jobs()), len(names))
     return shared.write(judged, options)
+
+
+def fix_file(name: str, asker: Asker, yes: bool) -> Judged:
+    """Carries out cures in a file, and says on standard error what was done."""
+    judged, done = fix(name, asker, lambda picture, cure: yes or agrees(picture, cure))
+    for text in done:
+        sys.stderr.write(f"{name}: {title(text)}\n")
+    return judged
+
+
+def agrees(picture: Picture, cure: Cure) -> bool:
+    """Asks whether a change is wanted. The end of the input is a no."""
+    where = f"{picture.source.name}:{picture.fault.place}" if picture.fault else picture.source.name
+    sys.stderr.write(f"{where}: {picture.message}\n  {title(cure.text)}? [y/N] ")
+    sys.stderr.flush()
+    return sys.stdin.readline().strip().lower() in ("y", "yes")
 
 
 def plain(command: str, names: list) -> int:

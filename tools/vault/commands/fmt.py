@@ -9,15 +9,14 @@ changes these files, and names them. A file that is no program in Vault is refus
 from __future__ import annotations
 
 import argparse
-import os
 import sys
-import tempfile
 from pathlib import Path
 
 from .. import layout, programs
 from ..cli import Parser
 from ..errors import Problem
-from ..programs import Answer, Program
+from ..files import replace_file
+from ..programs import Program
 
 UNLIKE = 1
 
@@ -59,23 +58,5 @@ def lay_out_file(program: Program, name: str, options: argparse.Namespace) -> in
     sys.stdout.write(f"{name}\n")
     if options.check:
         return UNLIKE
-    replace_text(Path(name), answer)
+    replace_file(Path(name), answer.output.encode("utf-8", "surrogateescape"))
     return 0
-
-
-def replace_text(path: Path, answer: Answer) -> None:
-    """Writes a layout in the place of a file's text; if that fails the file is as before."""
-    path = Path(os.path.realpath(path))
-    try:
-        mode = path.stat().st_mode & 0o7777
-        handle, part = tempfile.mkstemp(prefix=f".{path.name}.", dir=path.parent)
-        try:
-            with open(handle, "wb") as file:
-                file.write(answer.output.encode("utf-8", "surrogateescape"))
-            os.chmod(part, mode)
-            os.replace(part, path)
-        except BaseException:
-            os.unlink(part)
-            raise
-    except OSError as error:
-        raise Problem(f"{path}: {error.strerror}", 3)

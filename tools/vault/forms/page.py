@@ -41,7 +41,6 @@ mark.note { text-decoration-color: var(--note); }
 .cure { border-left: .25rem solid var(--note); padding-left: .6rem; } .ok { color: var(--note); }
 """
 CLASSES = {"keyword": "key", "number": "number", "tick": "number", "comment": "comment"}
-WORDS = {"fault": "the error", "step": "a step of the path", "note": "what led to it"}
 
 
 def prose(text: str) -> str:
@@ -49,7 +48,9 @@ def prose(text: str) -> str:
     return re.sub(r"`([^`]*)`", r"<code>\1</code>", html.escape(text))
 
 
+# the characters from the first up to the second, and how they are shown; of marks also which item of the list tells of them
 Piece = Tuple[int, int, str]
+Mark = Tuple[int, int, str, str]
 
 
 def coloured(source: Source) -> Dict[int, List[Piece]]:
@@ -66,17 +67,17 @@ def coloured(source: Source) -> Dict[int, List[Piece]]:
     return found
 
 
-def line_code(line: str, tokens: Sequence[Piece], marks: Sequence[Piece]) -> str:
-    """A line with its tokens in colour and its marks."""
-    cuts = sorted({0, len(line), *(at for start, end, _ in (*tokens, *marks) for at in (start, min(end, len(line))))})
+def line_code(line: str, tokens: Sequence[Piece], marks: Sequence[Mark]) -> str:
+    """A line with its tokens in colour and its marks. A screen reader tells of a mark what the list beside the source says."""
+    cuts = sorted({0, len(line), *(at for piece in (*tokens, *marks) for at in (piece[0], min(piece[1], len(line))))})
     out = []
     for start, end in zip(cuts, cuts[1:]):
         text = html.escape(printable(line[start:end]))
         for first, last, kind in tokens:
             if first <= start and end <= last:
                 text = f'<span class="{kind}">{text}</span>'
-        role = next((kind for first, last, kind in marks if first <= start and end <= last), "")
-        out.append(f'<mark class="{role}">{text}</mark>' if role else text)
+        mark = next((it for it in marks if it[0] <= start and end <= it[1]), None)
+        out.append(f'<mark class="{mark[2]}" aria-describedby="{mark[3]}">{text}</mark>' if mark else text)
     return "".join(out)
 
 
@@ -95,14 +96,20 @@ class Page:
     def anchor(self, label: Label) -> str:
         return f"e{self.number}-{self.order[label.source.name]}-{label.place.line}"
 
+    def words(self, number: int) -> str:
+        """The id of the item that tells of a label."""
+        return f"e{self.number}-said-{number}"
+
     def source(self, source: Source) -> List[str]:
         """The lines of a file, those folded that are far from a mark."""
-        marks: Dict[int, List[Piece]] = {}
+        marks: Dict[int, List[Mark]] = {}
         roles: Dict[int, str] = {}
-        for label in reversed(self.labels):
+        for number in range(len(self.labels) - 1, -1, -1):
+            label = self.labels[number]
             if label.source.name == source.name:
                 start = source.characters(label.place)
-                marks.setdefault(label.place.line, []).insert(0, (start, start + label.length, label.role))
+                mark = (start, start + label.length, label.role, self.words(number))
+                marks.setdefault(label.place.line, []).insert(0, mark)
                 roles[label.place.line] = "fault" if label.role == "fault" else roles.get(label.place.line, label.role)
         colours = coloured(source)
         total = len(source.lines) - (source.lines[-1:] == [""])
@@ -129,18 +136,19 @@ class Page:
         out = []
         for way in [one for one in self.picture.ways if one.is_path]:
             out += [f"<h3>{prose(way.title[:1].upper() + way.title[1:])}</h3>"] if way.title else []
-            out += ['<ol class="said">', *(self.item(label) for label in way.labels), "</ol>"]
+            out += ['<ol class="said">', *(self.item(label) for label in way.labels), "</ol>"] if way.labels else []
         if self.picture.fault:
             out += ['<ul class="said">', self.item(self.picture.fault), "</ul>"]
         for way in [one for one in self.picture.ways if not one.is_path]:
-            out += ['<ul class="said">', *(self.item(label) for label in way.labels), "</ul>"]
+            out += ['<ul class="said">', *(self.item(label) for label in way.labels), "</ul>"] if way.labels else []
         return out
 
     def item(self, label: Label) -> str:
         name = "" if label.source.name == self.picture.source.name else f"{html.escape(label.source.name)} "
         text = label.text or self.picture.message
         where = f'<a href="#{self.anchor(label)}">{name}line {label.place.line}</a>'
-        return f'<li class="{label.role}">{where}: {prose(text)}</li>'
+        number = next(number for number, one in enumerate(self.labels) if one is label)
+        return f'<li class="{label.role}" id="{self.words(number)}">{where}: {prose(text)}</li>'
 
     def article(self) -> List[str]:
         picture = self.picture

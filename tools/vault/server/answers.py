@@ -2,13 +2,15 @@
 from __future__ import annotations
 
 from dataclasses import dataclass
-from typing import Any, Dict, Iterator, List, Optional, Tuple
+from pathlib import Path
+from typing import Any, Dict, Iterator, List, Optional, Set, Tuple
 
 from .. import layout
 from .. import syntax as s
-from ..ask import Asker
+from ..ask import Asker, Reply
 from ..declarations import Declarations
 from ..held import Table
+from ..picture import Picture, View
 from ..scope import Scope, scope_at
 from ..tokens import KEYWORDS
 from .documents import Document
@@ -76,7 +78,7 @@ def held_at(document: Document, tables: List[Table], function: str, offset: int)
 def inlay_hints(document: Document, asker: Asker, wanted: Dict[str, Any]) -> List[Dict[str, Any]]:
     """At the end of each line of a range with a statement: what is held after it."""
     declarations = document.view.declarations
-    if declarations is None or document.is_large:
+    if declarations is None:
         return []
     tables = document.tables(asker)
     hints: Dict[int, Dict[str, Any]] = {}
@@ -113,19 +115,46 @@ def declaration_text(document: Document, symbol: Symbol) -> str:
 
 
 def hover(document: Document, asker: Asker, offset: int) -> Optional[Dict[str, Any]]:
-    """What a name stands for, and what is held before the statement around a character."""
-    names = names_of(document.view)
-    if names is None:
-        return None
+    """What a name stands for, what is held before the statement around a character, and what cures an error on its line."""
     parts: List[str] = []
-    found = names.at(offset)
+    names = names_of(document.view)
+    found = names.at(offset) if names else None
     if found and found[1]:
         parts.append(f"```vault\n{declaration_text(document, found[1])}\n```")
-    scope = scope_at(names.declarations, offset)
-    if scope and scope.statement and not document.is_large:
+    elif found:
+        outer = outer_declaration(document, found[0].text)
+        parts += [f"```vault\n{outer[1]}\n```"] if outer else []
+    scope = scope_at(names.declarations, offset) if names else None
+    if scope and scope.statement and asker.vaultq:
         text = held_at(document, document.tables(asker), scope.function.name.text, scope.statement.span.start)
         parts.append(f"held before this statement: {text}" if text else "no path comes to this statement")
+    parts += cures_at(document, asker, offset)
     return {"contents": {"kind": "markdown", "value": "\n\n".join(parts)}} if parts else None
+
+
+def cures_at(document: Document, asker: Asker, offset: int) -> List[str]:
+    """What cures the errors on the line of a character."""
+    line = document.view.source.place(offset).line
+    name = document.view.source.name
+
+    def is_here(picture: Picture) -> bool:
+        return picture.fault is not None and picture.fault.source.name == name and picture.fault.place.line == line
+
+    if not any(is_here(picture) for picture in document.errors(asker)):
+        return []
+    cures = [cure.text for picture in document.pictures(asker) if is_here(picture) for cure in picture.cures]
+    return [f"cure: {text}" for text in dict.fromkeys(cures)]
+
+
+def outer_declaration(document: Document, name: str) -> Optional[Tuple[s.Declaration, str]]:
+    """The declaration that a module's interface has of a name, and its head or its first line."""
+    view = document.outer
+    found = view.declarations.by_name.get(name) if view is not None and view.declarations else None
+    if not found or view is None:
+        return None
+    one = found[0]
+    text = view.text_of(one.head if isinstance(one, s.Function) else one.span)
+    return one, text.split("\n")[0]
 
 
 def symbol_at(document: Document, offset: int) -> Optional[Tuple[Names, Symbol]]:
@@ -137,7 +166,15 @@ def symbol_at(document: Document, offset: int) -> Optional[Tuple[Names, Symbol]]
 def definition(document: Document, offset: int) -> Optional[Dict[str, Any]]:
     """Where a name is declared."""
     found = symbol_at(document, offset)
-    return {"uri": document.uri, "range": document.range(found[1].declared)} if found else None
+    if found:
+        return {"uri": document.uri, "range": document.range(found[1].declared)}
+    names = names_of(document.view)
+    token = names.at(offset) if names else None
+    outer = outer_declaration(document, token[0].text) if token else None
+    if outer is None or document.interface is None:
+        return None
+    file = Document(Path(document.interface.name).resolve().as_uri(), document.interface.text)
+    return {"uri": file.uri, "range": file.range(outer[0].name.span)}
 
 
 def use_ranges(document: Document, offset: int) -> List[Dict[str, Any]]:
@@ -162,11 +199,18 @@ def rename(document: Document, asker: Asker, offset: int, name: str) -> Dict[str
     text = document.view.source.text
     for span in reversed(spans):
         text = text[: span.start] + tick + name + text[span.end :]
-    before, after = asker.first(str(document.path), document.data), asker.first(str(document.path), text.encode())
-    if before.status != after.status:
+    before, after = document.check(asker, document.data), document.check(asker, text.encode("utf-8", "replace"))
+    if shape(before) != shape(after):
         raise RpcError(REQUEST_FAILED, f"the renamed text would be refused: {' '.join(after.lines[:1])}")
     edits = [{"range": document.range(span), "newText": tick + name} for span in spans]
     return {"changes": {document.uri: edits}}
+
+
+def shape(reply: Reply) -> Tuple[Any, ...]:
+    """What a reply says, without names and columns: those change where something is renamed."""
+    first = reply.reports[0] if reply.reports else None
+    place = getattr(first, "place", None)
+    return reply.status, type(first), getattr(first, "rule", None), place.line if place else None
 
 
 def document_symbols(document: Document) -> List[Dict[str, Any]]:
@@ -204,15 +248,17 @@ def completion(document: Document, good: Optional[Document], offset: int) -> Lis
     declarations = document.view.declarations or (good.view.declarations if good else None)
     if declarations is None:
         return [item(word, KEYWORD) for word in KEYWORDS]
+    known = [declarations, *(one for one in document.known() if one is not declarations)]
     scope = scope_at(declarations, min(start, len(text)))
     before = text[:start].rstrip()
     if before.endswith("."):
         return fields_after(declarations, scope, before[:-1].rstrip())
     if before.endswith("@"):
-        return [item(state.text, MEMBER, it.name.text) for it in declarations.all(s.StateSet) for state in it.states]
+        return [item(state.text, MEMBER, it.name.text) for one in known for it in one.all(s.StateSet) for state in it.states]
     if text[:start].endswith("'"):
-        return [item(case.tick.text.lstrip("'"), MEMBER, it.name.text) for it in declarations.all(s.Variant) for case in it.cases]
-    return list(known_names(document if document.view.declarations else good or document, declarations, scope))
+        return [item(case.tick.text.lstrip("'"), MEMBER, it.name.text) for one in known for it in one.all(s.Variant) for case in it.cases]
+    views = [document.view if document.view.declarations else good.view if good else document.view, document.outer]
+    return list(known_names([view for view in views if view is not None and view.declarations], scope))
 
 
 def fields_after(declarations: Declarations, scope: Optional[Scope], before: str) -> List[Dict[str, Any]]:
@@ -225,15 +271,20 @@ def fields_after(declarations: Declarations, scope: Optional[Scope], before: str
     return [item(it.name.text, FIELD, f"{it.type}{s.at_states(it.states)}") for owner in owners for it in fields_of(declarations, owner)]
 
 
-def known_names(document: Document, declarations: Declarations, scope: Optional[Scope]) -> Iterator[Dict[str, Any]]:
-    """Variables in scope, functions with their clauses, types, and keywords."""
+def known_names(views: List[View], scope: Optional[Scope]) -> Iterator[Dict[str, Any]]:
+    """Variables in scope, functions with their clauses, types, and keywords; what an interface has, too."""
     for variable in scope.variables if scope else ():
         yield item(variable.name.text, VARIABLE, str(variable.type or ""))
-    for it in declarations.program.declarations:
-        if isinstance(it, s.Function):
-            yield item(it.name.text, FUNCTION, document.view.text_of(it.head))
-        else:
-            yield item(it.name.text, ENUM if isinstance(it, s.StateSet) else STRUCT)
+    seen: Set[str] = set()
+    for view in views:
+        for it in view.program.declarations if view.program else ():
+            if it.name.text in seen:
+                continue
+            seen.add(it.name.text)
+            if isinstance(it, s.Function):
+                yield item(it.name.text, FUNCTION, view.text_of(it.head))
+            else:
+                yield item(it.name.text, ENUM if isinstance(it, s.StateSet) else STRUCT)
     for word in KEYWORDS:
         yield item(word, KEYWORD)
 

@@ -1,19 +1,21 @@
 """Open texts: their places as editors count them, and what the programs say of them."""
 from __future__ import annotations
 
-import json
-import os
 import urllib.parse
 from dataclasses import dataclass, field
 from pathlib import Path
 from typing import Any, Dict, List, Optional
 
+from .. import modules
 from .. import syntax as s
-from ..ask import Asker
+from ..ask import Asker, Reply
+from ..declarations import Declarations
 from ..held import Table
 from ..judge import Wishes, pictures_of
 from ..picture import Picture, View
+from ..report import KeyFault, Report, RuleFault, TextFault
 from ..source import Source
+from ..texts import other_picture
 
 MOST_BYTES = 200_000
 """A longer text gets its errors alone."""
@@ -26,14 +28,18 @@ def units(text: str) -> int:
 
 @dataclass
 class Document:
-    """An open text. What is found of it is found once for each version."""
+    """An open text, and the interface that it is judged beside, if it has one. What is found of it is found once for each version."""
 
     uri: str
     text: str
     version: int = 0
+    interface: Optional[Source] = None
+    _data: Optional[bytes] = field(default=None, repr=False)
     _view: Optional[View] = field(default=None, repr=False)
+    _errors: Optional[List[Picture]] = field(default=None, repr=False)
     _pictures: Optional[List[Picture]] = field(default=None, repr=False)
     _tables: Optional[List[Table]] = field(default=None, repr=False)
+    _outer: Optional[View] = field(default=None, repr=False)
 
     @property
     def path(self) -> Path:
@@ -43,38 +49,99 @@ class Document:
 
     @property
     def data(self) -> bytes:
-        return self.text.encode("utf-8", "replace")
+        if self._data is None:
+            self._data = self.text.encode("utf-8", "replace")
+        return self._data
 
     @property
     def is_large(self) -> bool:
-        return len(self.text) > MOST_BYTES
+        return len(self.data) > MOST_BYTES
+
+    @property
+    def is_module(self) -> bool:
+        """Whether it is judged beside an interface, and isn't the interface itself."""
+        return self.interface is not None and self.interface.name != str(self.path)
 
     @property
     def view(self) -> View:
-        """The text with what it declares."""
+        """The text with what it declares; of a large one the text alone."""
         if self._view is None:
-            self._view = View(Source(str(self.path), self.data))
+            self._view = View(Source(str(self.path), self.data), not self.is_large)
         return self._view
+
+    @property
+    def outer(self) -> Optional[View]:
+        """The interface of a module with what it declares."""
+        if self._outer is None and self.is_module and self.interface is not None:
+            self._outer = View(self.interface)
+        return self._outer
+
+    def known(self) -> List[Declarations]:
+        """What the text declares, and the interface after it."""
+        return [view.declarations for view in (self.view, self.outer) if view is not None and view.declarations is not None]
 
     def change(self, text: str, version: int) -> None:
         """Puts another text in its place."""
         self.text, self.version = text, version
-        self._view = self._pictures = self._tables = None
+        self._data = self._view = None
+        self.forget()
+
+    def put_beside(self, interface: Optional[Source]) -> None:
+        """Says which interface it is judged beside."""
+        if interface != self.interface:
+            self.interface = interface
+            self._outer = None
+            self.forget()
+
+    def forget(self) -> None:
+        """Drops what was found of it."""
+        self._errors = self._pictures = self._tables = None
+
+    # ---- what the programs say
+
+    def errors(self, asker: Asker) -> List[Picture]:
+        """The errors of the text with what led to them, without cures."""
+        if self._errors is None:
+            self._errors = self.large_errors(asker) if self.is_large else self.judge(asker, Wishes(cures=False))
+        return self._errors
 
     def pictures(self, asker: Asker) -> List[Picture]:
-        """The errors of the text, with what led to them and cures that were tried."""
+        """The errors of the text with cures, which are tried: that takes longer."""
+        if self.is_large:
+            return self.errors(asker)
         if self._pictures is None:
-            data = self.data
-            # what is asked may not be empty: a blank says nothing more
-            reply = asker.faults(str(self.path), data or b"\n")
-            self._pictures = pictures_of(self.view, reply, asker, Wishes(first=self.is_large), data or b"\n")
+            self._pictures = self.judge(asker, Wishes(repairs=True)) if self.errors(asker) else []
         return self._pictures
+
+    def judge(self, asker: Asker, wishes: Wishes) -> List[Picture]:
+        # what is asked may not be empty: a blank says nothing more
+        data = self.data or b"\n"
+        if self.interface is not None:
+            return modules.judge_texts(asker, self.interface, self.view.source, wishes).pictures
+        return pictures_of(self.view, asker.faults(str(self.path), data), asker, wishes, data)
+
+    def large_errors(self, asker: Asker) -> List[Picture]:
+        """The first error of a large text in the program's own words."""
+        return [bare_picture(self.view, it, reply.status) for reply in [self.check(asker, self.data)] for it in reply.reports[:1]]
+
+    def check(self, asker: Asker, data: bytes) -> Reply:
+        """What the program says of another text in this one's place."""
+        if self.interface is None:
+            return asker.first(str(self.path), data or b"\n")
+        source = Source(str(self.path), data)
+        return modules.ask_texts(asker, self.interface if self.is_module else source, source)
 
     def tables(self, asker: Asker) -> List[Table]:
         """What is held at each point of the text."""
         if self._tables is None:
-            self._tables = asker.tables(str(self.path), self.data or b"\n") or []
+            self._tables = self.module_tables(asker) if self.is_module else asker.tables(str(self.path), self.data or b"\n") or []
         return self._tables
+
+    def module_tables(self, asker: Asker) -> List[Table]:
+        source = self.view.source
+        view = modules.join(self.interface, source) if self.interface is not None else None
+        found = asker.tables(source.name, view.source.data) if view is not None else None
+        return view.tables_at_home(found, source) if view is not None and found else []
 
     # ---- places
 
@@ -92,9 +159,9 @@ class Document:
     def position(self, offset: int) -> Dict[str, int]:
         """The position of a character."""
         source = self.view.source
-        place = source.place(min(offset, len(source.text)))
-        before = source.text[source.starts[place.line - 1] : offset]
-        return {"line": place.line - 1, "character": units(before)}
+        place = source.place(min(offset, len(self.text)))
+        start = source.starts[place.line - 1]
+        return {"line": place.line - 1, "character": units(source.lines[place.line - 1][: offset - start])}
 
     def range(self, span: s.Span) -> Dict[str, Any]:
         """The range of some characters."""
@@ -102,23 +169,13 @@ class Document:
 
     def whole(self) -> Dict[str, Any]:
         """The range of the whole text."""
-        return self.range(s.Span(0, len(self.view.source.text)))
+        return self.range(s.Span(0, len(self.text)))
 
 
-@dataclass(frozen=True)
-class Module:
-    """What the file vault.json of a folder says: an interface, and the modules that are checked beside it."""
-
-    interface: Path
-    modules: List[Path]
-
-
-def module_of(path: Path) -> Optional[Module]:
-    """The module setup of a file's folder, if vault.json there names the file as a module."""
-    try:
-        said = json.loads((path.parent / "vault.json").read_text(encoding="utf-8"))
-        interface, names = said["interface"], said["modules"]
-        found = Module(path.parent / interface, [path.parent / name for name in names])
-    except (OSError, ValueError, KeyError, TypeError):
-        return None
-    return found if any(os.path.normpath(it) == os.path.normpath(path) for it in found.modules) else None
+def bare_picture(view: View, report: Report, status: int) -> Picture:
+    """The picture of a report in the program's own words, at its place."""
+    if status == 0 or not isinstance(report, (KeyFault, RuleFault, TextFault)) or report.place is None:
+        found = other_picture(view, report, status)
+        return found if status else Picture(view.source, "ok", "accepted", report.line, report.line)
+    offset = view.offset(report.place)
+    return Picture(view.source, "error", "large", report.line, report.line, view.label(s.Span(offset, offset + 1), "", "fault"))

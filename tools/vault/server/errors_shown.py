@@ -2,12 +2,13 @@
 from __future__ import annotations
 
 import json
+from dataclasses import replace
 from pathlib import Path
 from typing import Any, Dict, List
 
 from .. import paths
 from .. import syntax as s
-from ..picture import Cure, Label, Picture
+from ..picture import Cure, Label, Picture, title
 from .documents import Document
 
 SEVERITY = {"error": 1, "warning": 2, "note": 3, "ok": 4}
@@ -37,16 +38,27 @@ def link_of(picture: Picture) -> str:
     return f"{address}#{anchor}" if anchor else address
 
 
+def place_of(document: Document, picture: Picture) -> s.Span:
+    """The characters that an error marks; of one in another file, as a module's interface, the document's first."""
+    here = picture.fault is not None and picture.fault.source.name == document.view.source.name
+    return span_of(document, picture.fault) if here and picture.fault else s.Span(0, 0)
+
+
 def diagnostic(document: Document, picture: Picture) -> Dict[str, Any]:
     """An error as a diagnostic."""
-    span = span_of(document, picture.fault) if picture.fault else s.Span(0, 0)
+    labels = [label for way in picture.ways for label in way.labels]
+    message = picture.message
+    if picture.fault and picture.fault.source.name != document.view.source.name:
+        name = Path(picture.fault.source.name).name
+        labels.insert(0, replace(picture.fault, text=picture.fault.text or picture.message))
+        message = f"in {name}: {message}"
     said = {
-        "range": document.range(span),
+        "range": document.range(place_of(document, picture)),
         "severity": SEVERITY.get(picture.severity, 1),
         "source": "vault",
         "code": picture.rule,
-        "message": "\n".join([picture.message, *picture.notes, *(cure.text for cure in picture.cures if not cure.edits)]),
-        "relatedInformation": [related(document, label) for way in picture.ways for label in way.labels],
+        "message": "\n".join([message, *picture.notes]),
+        "relatedInformation": [related(document, label) for label in labels],
     }
     if picture.link:
         said["codeDescription"] = {"href": link_of(picture)}
@@ -62,7 +74,7 @@ def action(document: Document, picture: Picture, cure: Cure, is_first: bool) -> 
     """A cure as a code action."""
     edits = [{"range": document.range(edit.span), "newText": edit.text} for edit in cure.edits]
     return {
-        "title": ("insert " if cure.text.startswith("`") else "") + cure.text.replace("`", ""),
+        "title": title(cure.text),
         "kind": "quickfix",
         "diagnostics": [diagnostic(document, picture)],
         "isPreferred": is_first and cure.tested,
@@ -71,11 +83,10 @@ def action(document: Document, picture: Picture, cure: Cure, is_first: bool) -> 
 
 
 def actions(document: Document, pictures: List[Picture], wanted: Dict[str, Any]) -> List[Dict[str, Any]]:
-    """The cures of the errors whose line is in a range. A cure of keys was tried: the program no longer has the error of the changed text."""
+    """The changes that cure the errors whose line is in a range. Each was tried: the program no longer has the error of the changed text."""
     found = []
     for picture in pictures:
-        at = diagnostic(document, picture)["range"]
+        at = document.range(place_of(document, picture))
         if at["start"]["line"] <= wanted["end"]["line"] and wanted["start"]["line"] <= at["end"]["line"]:
-            cures = [cure for cure in picture.cures if cure.edits]
-            found += [action(document, picture, cure, not number) for number, cure in enumerate(cures)]
+            found += [action(document, picture, cure, not number) for number, cure in enumerate(picture.changes())]
     return [json.loads(text) for text in dict.fromkeys(json.dumps(it) for it in found)]

@@ -5,21 +5,26 @@ import queue
 import threading
 import time
 from dataclasses import dataclass
-from typing import Any, BinaryIO, Callable, Dict, List, Optional, Set
+from pathlib import Path
+from typing import Any, BinaryIO, Callable, Dict, Optional, Set
 
-from .. import ask, sources
+from .. import ask, setups, sources
 from ..ask import Asker
 from ..errors import NoProgram, Problem
 from ..programs import Answer, Program
+from ..source import Source
 from . import answers, errors_shown
 from .documents import Document
-from .wire import INTERNAL_ERROR, INVALID_PARAMS, METHOD_NOT_FOUND, Ended, Message, RpcError, Wire
+from .wire import INTERNAL_ERROR, INVALID_PARAMS, INVALID_REQUEST, METHOD_NOT_FOUND, REQUEST_FAILED, Ended, Message, RpcError, Wire
 
 REST = 0.1
 """Seconds without a change before a text is judged."""
 
 LONGEST = 5.0
-"""Seconds after which a program is ended."""
+"""Seconds after which a program is ended, if the command doesn't say another number."""
+
+LINES = (0, 2, 5, 6, 7, 8)
+"""Statuses with which a program has written what it has to say."""
 
 INCREMENTAL = 2
 ERROR = 1
@@ -39,15 +44,22 @@ CAPABILITIES = {
 }
 
 
+@dataclass(frozen=True)
 class TimedProgram(Program):
-    """A program that is ended if it takes too long."""
+    """A program that is ended if it takes longer than `longest` seconds. One that ends without a word is a Problem."""
+
+    longest: float = LONGEST
 
     def ask(self, words, *, input=None, folder=None, timeout=None) -> Answer:  # type: ignore[override]
-        return super().ask(words, input=input, folder=folder, timeout=timeout or LONGEST)
+        answer = super().ask(words, input=input, folder=folder, timeout=timeout or self.longest)
+        if answer.status not in LINES or answer.status and not answer.output:
+            last = answer.errors.strip().rpartition("\n")[2]
+            raise Problem(f"{self.path} ended with status {answer.status}" + (f": {last}" if last else ""))
+        return answer
 
 
-def timed(program: Optional[Program]) -> Optional[Program]:
-    return TimedProgram(program.name, program.path, program.proved, program.command) if program else None
+def timed(program: Optional[Program], longest: float) -> Optional[Program]:
+    return TimedProgram(program.name, program.path, program.proved, program.command, longest) if program else None
 
 
 @dataclass(frozen=True)
@@ -61,8 +73,9 @@ class Received:
 class Server:
     """A server over one connection."""
 
-    def __init__(self, reader: BinaryIO, writer: BinaryIO) -> None:
+    def __init__(self, reader: BinaryIO, writer: BinaryIO, longest: float = LONGEST) -> None:
         self.wire = Wire(reader, writer)
+        self.longest = longest
         self.documents: Dict[str, Document] = {}
         self.good: Dict[str, Document] = {}
         self.due: Dict[str, float] = {}
@@ -78,10 +91,12 @@ class Server:
             "textDocument/references": self.at(answers.references),
             "textDocument/documentHighlight": self.at(lambda it, offset: [{"range": one} for one in answers.use_ranges(it, offset)]),
             "textDocument/completion": self.at(lambda it, offset: answers.completion(it, self.good.get(it.uri), offset)),
-            "textDocument/documentSymbol": lambda params: answers.document_symbols(self.document(params)),
-            "textDocument/formatting": lambda params: answers.formatting(self.document(params), self.take()),
-            "textDocument/inlayHint": lambda params: answers.inlay_hints(self.document(params), self.take(), params["range"]),
-            "textDocument/codeAction": self.code_actions,
+            "textDocument/documentSymbol": self.of(lambda it, _: answers.document_symbols(it)),
+            "textDocument/formatting": self.of(lambda it, _: answers.formatting(it, self.take())),
+            "textDocument/inlayHint": self.of(lambda it, params: answers.inlay_hints(it, self.take(), params["range"])),
+            "textDocument/codeAction": self.of(
+                lambda it, params: errors_shown.actions(it, it.pictures(self.take()), params["range"])
+            ),
             "textDocument/rename": self.rename,
         }
         self.notifications: Dict[str, Callable[[Any], None]] = {
@@ -140,8 +155,13 @@ class Server:
         except Problem as problem:
             self.tell(problem)
             self.fail(message, RpcError(INTERNAL_ERROR, problem.message))
+        except Exception as error:  # whatever goes wrong with one message, the server goes on
+            self.tell(Problem(f"{message.method} failed: {error!r}"))
+            self.fail(message, RpcError(INTERNAL_ERROR, f"{message.method} failed: {error!r}"))
 
     def result(self, message: Message) -> Any:
+        if self.is_shut:
+            raise RpcError(INVALID_REQUEST, f"{message.method} after shutdown")
         if message.method not in self.requests:
             raise RpcError(METHOD_NOT_FOUND, f"{message.method} isn't known here")
         return self.requests[message.method](message.params)
@@ -156,10 +176,10 @@ class Server:
     # ---- programs
 
     def take(self) -> Asker:
-        """The programs that are asked."""
+        """The programs that are asked. None is compiled here, since that takes minutes."""
         if self.asker is None:
-            found = ask.take()
-            self.asker = Asker(timed(found.vaultc), timed(found.vaultq))  # type: ignore[arg-type]
+            found = ask.find()
+            self.asker = Asker(timed(found.vaultc, self.longest), timed(found.vaultq, self.longest))  # type: ignore[arg-type]
         return self.asker
 
     def tell(self, problem: Problem) -> None:
@@ -175,21 +195,41 @@ class Server:
         uri = params["textDocument"]["uri"]
         if uri not in self.documents:
             raise RpcError(INVALID_PARAMS, f"{uri} isn't open")
-        return self.documents[uri]
+        document = self.documents[uri]
+        document.put_beside(self.interface(document))
+        return document
 
-    def at(self, answer: Callable[[Document, int], Any]) -> Callable[[Any], Any]:
-        """A request at a position of a text."""
+    def interface(self, document: Document) -> Optional[Source]:
+        """The interface that a text is judged beside, as it is in the editor, or else in its file."""
+        if not document.uri.startswith("file:"):
+            return None
+        try:
+            path = setups.interface_of(document.path)
+        except Problem as problem:
+            self.tell(problem)
+            return None
+        if path is None:
+            return None
+        opened = next((it for it in self.documents.values() if it.uri.startswith("file:") and setups.is_same(it.path, path)), None)
+        return Source(str(opened.path), opened.data) if opened else Source.read(str(path))
+
+    def of(self, answer: Callable[[Document, Any], Any]) -> Callable[[Any], Any]:
+        """A request about a text. A large one is answered by nothing."""
 
         def request(params: Any) -> Any:
             document = self.document(params)
-            return answer(document, document.offset(params["position"]))
+            return None if document.is_large else answer(document, params)
 
         return request
+
+    def at(self, answer: Callable[[Document, int], Any]) -> Callable[[Any], Any]:
+        """A request about a position of a text."""
+        return self.of(lambda document, params: answer(document, document.offset(params["position"])))
 
     def open(self, params: Any) -> None:
         said = params["textDocument"]
         self.documents[said["uri"]] = Document(said["uri"], said["text"], said.get("version", 0))
-        self.due[said["uri"]] = time.monotonic()
+        self.judge_after(self.documents[said["uri"]], 0.0)
 
     def change(self, params: Any) -> None:
         document = self.document(params)
@@ -199,10 +239,17 @@ class Server:
             text = change["text"]
             if "range" in change:
                 start, end = document.offset(change["range"]["start"]), document.offset(change["range"]["end"])
-                whole = document.view.source.text
-                text = whole[:start] + text + whole[end:]
+                text = document.text[:start] + text + document.text[end:]
             document.change(text, params["textDocument"].get("version", 0))
-        self.due[document.uri] = time.monotonic() + REST
+        self.judge_after(document, REST)
+
+    def judge_after(self, document: Document, seconds: float) -> None:
+        """Has a text judged once it has been at rest, and after it the modules whose interface it is."""
+        when = time.monotonic() + seconds
+        self.due[document.uri] = when
+        for other in self.documents.values():
+            if other is not document and other.interface is not None and setups.is_same(Path(other.interface.name), document.path):
+                self.due[other.uri] = when
 
     def close(self, params: Any) -> None:
         uri = params["textDocument"]["uri"]
@@ -216,26 +263,24 @@ class Server:
         for uri in [uri for uri, when in self.due.items() if when <= now]:
             del self.due[uri]
             try:
-                self.publish(self.documents[uri])
+                self.publish(self.document({"textDocument": {"uri": uri}}))
             except Problem as problem:
                 self.tell(problem)
+            except Exception as error:  # whatever goes wrong with one text, the server goes on
+                self.tell(Problem(f"{uri} can't be judged: {error!r}"))
 
     def publish(self, document: Document) -> None:
-        found = errors_shown.diagnostics(document, document.pictures(self.take()))
+        found = errors_shown.diagnostics(document, document.errors(self.take()))
         said = {"uri": document.uri, "version": document.version, "diagnostics": found}
         self.wire.notify("textDocument/publishDiagnostics", said)
 
-    # ---- requests with more than a position
-
-    def code_actions(self, params: Any) -> List[Dict[str, Any]]:
-        document = self.document(params)
-        return errors_shown.actions(document, document.pictures(self.take()), params["range"])
-
     def rename(self, params: Any) -> Dict[str, Any]:
         document = self.document(params)
+        if document.is_large:
+            raise RpcError(REQUEST_FAILED, "the text is too long")
         return answers.rename(document, self.take(), document.offset(params["position"]), params["newName"])
 
 
-def serve(reader: BinaryIO, writer: BinaryIO) -> int:
+def serve(reader: BinaryIO, writer: BinaryIO, longest: float = LONGEST) -> int:
     """Serves one client; the status of the command."""
-    return Server(reader, writer).run()
+    return Server(reader, writer, longest).run()

@@ -55,7 +55,7 @@ class Wire:
             raise Ended
         try:
             said = json.loads(body.decode("utf-8"))
-        except ValueError as error:
+        except (ValueError, RecursionError) as error:
             raise RpcError(PARSE_ERROR, f"this is no JSON: {error}")
         return message_of(said)
 

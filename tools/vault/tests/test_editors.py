@@ -13,6 +13,8 @@ from typing import List
 from vault import paths, programs
 from vault.ask import take
 
+from .test_server import INTERFACE, MODULE, PATIENCE
+
 EDITORS = paths.TOP / "editors"
 SESSION = Path(__file__).parent / "editors" / "session.lua"
 
@@ -29,23 +31,31 @@ class Neovim(unittest.TestCase):
     def nvim(self, *words: str, **environment: str) -> None:
         paths_of_run = f"set runtimepath+={EDITORS / 'vim'},{EDITORS / 'nvim'} | filetype plugin on | syntax on"
         command = ["nvim", "--headless", "-u", "NONE", "-i", "NONE", "--cmd", paths_of_run]
-        command += ["--cmd", f"luafile {EDITORS / 'nvim/plugin/vault.lua'}", *words]
-        subprocess.run(command, env={**os.environ, **environment, "HOME": str(self.top)}, check=True, timeout=120)
+        command += ["--cmd", f"let g:vault_lsp_options = ['--seconds', '{PATIENCE}']", "--cmd", f"luafile {EDITORS / 'nvim/plugin/vault.lua'}", *words]
+        # without a terminal and with a standard input that has ended, as from a shell in the background
+        subprocess.run(command, env={**os.environ, **environment, "HOME": str(self.top)}, check=True, timeout=PATIENCE, stdin=subprocess.DEVNULL)
 
-    def session(self, file: Path) -> List[str]:
+    def session(self, file: Path, module: Path) -> List[str]:
         seen = self.top / "seen"
-        self.nvim("-c", f"luafile {SESSION}", SEEN=str(seen), FILE=str(file), XDG_CACHE_HOME=str(paths.cache().parent))
+        cache = str(paths.cache().parent)
+        self.nvim("-c", f"luafile {SESSION}", SEEN=str(seen), FILE=str(file), MODULE=str(module), XDG_CACHE_HOME=cache)
         return seen.read_text(encoding="utf-8").split("\n")
 
-    def test_a_fault_is_shown_and_cured(self) -> None:
-        file = self.top / "lock_kept.v"
+    def test_a_session(self) -> None:
+        file, module = self.top / "lock_kept.v", self.top / "disk.v"
         shutil.copyfile(paths.TOP / "examples" / "lock_kept.v", file)
-        seen = self.session(file)
-        self.assertIn("filetype vault", seen)
-        self.assertTrue(any(line.startswith("error 15:9 ") for line in seen), seen)
+        module.write_text(MODULE, encoding="utf-8")
+        (self.top / "disk.vi").write_text(INTERFACE, encoding="utf-8")
+        seen = self.session(file, module)
+        self.assertEqual(seen[0], "filetype vault")
+        self.assertTrue(seen[1].startswith("error 15:9 "), seen)
+        self.assertRegex(seen[2], r"^hover .*cure: `unlock\(a\);` before this `return`$")
         self.assertIn("cure insert unlock(a); before this return", seen)
-        self.assertIn("errors left 0", seen)
-        self.assertIn("edits of the layout 0", seen)
+        self.assertEqual(seen.count("errors left 0"), 2)
+        self.assertIn("edits of the layout 1", seen)
+        self.assertIn("first lines // first||stateset latch { loose, shut }", seen)
+        self.assertIn("cure insert start(d); before this brace", seen)
+        self.assertNotIn("waited in vain", seen)
         if take().vaultq:
             self.assertIn("hint 13 L@shut", seen)
 

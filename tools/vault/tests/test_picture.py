@@ -3,8 +3,10 @@ from __future__ import annotations
 
 import json
 import re
+import tempfile
 import unittest
 from html.parser import HTMLParser
+from pathlib import Path
 from typing import Dict, List
 
 from vault.forms import gcc, json_form, page, sarif, text
@@ -12,7 +14,8 @@ from vault.judge import Judged
 from vault.paths import TOP
 from vault.picture import Picture
 
-from .golden import MISTAKES, WIDTH, GoldenCase, judged
+from .golden import GOLDEN, MISTAKES, WIDTH, GoldenCase, judged
+from .schema import sarif_schema
 
 STYLE = text.Style(WIDTH)
 SHOWN = ["released_on_one_way.v", "lock_kept.v", "radio_started.v", "unfinished.v", "point.v"]
@@ -85,7 +88,7 @@ class Gcc(unittest.TestCase):
 
 
 class Sarif(unittest.TestCase):
-    """What the schema of SARIF 2.1.0 requires of the parts that are written."""
+    """The parts of SARIF 2.1.0 that are written, by its schema and by what code scanning asks beyond it."""
 
     document: Dict = {}
 
@@ -93,34 +96,85 @@ class Sarif(unittest.TestCase):
     def setUpClass(cls) -> None:
         cls.document = json.loads(sarif.write(judged([*SHOWN, "nofile.v"], TOP / "examples")))
 
+    @property
+    def results(self) -> List[Dict]:
+        return self.document["runs"][0]["results"]
+
+    def test_it_fits_the_schema(self) -> None:
+        self.assertEqual(sarif_schema().faults(self.document), [])
+
+    def test_the_golden_file_fits_the_schema(self) -> None:
+        self.assertEqual(sarif_schema().faults(json.loads((GOLDEN / "examples.sarif").read_text(encoding="utf-8"))), [])
+
+    def test_names_with_blanks_and_umlauts_are_uris(self) -> None:
+        with tempfile.TemporaryDirectory() as name:
+            (Path(name) / "größe 1.v").write_text("void main() {\n    print(y);\n}\n", encoding="utf-8")
+            document = json.loads(sarif.write(judged(["größe 1.v", f"{name}/größe 1.v"], Path(name))))
+        self.assertEqual(sarif_schema().faults(document), [])
+        uris = [one["locations"][0]["physicalLocation"]["artifactLocation"]["uri"] for one in document["runs"][0]["results"]]
+        self.assertEqual(uris[0], "gr%C3%B6%C3%9Fe%201.v")
+        self.assertTrue(uris[1].startswith("file:///"), uris[1])
+
+    def test_the_schema_is_known_to_refuse(self) -> None:
+        for spoil in (
+            lambda it: it.pop("version"),
+            lambda it: it["runs"][0].pop("tool"),
+            lambda it: it["runs"][0]["results"][0].pop("message"),
+            lambda it: it["runs"][0]["results"][0]["locations"][0]["physicalLocation"]["region"].update(startLine=0),
+            lambda it: it["runs"][0]["results"][0].update(level="fatal"),
+            lambda it: it["runs"][0]["results"][0].update(line=3),
+            lambda it: it["runs"][0]["tool"]["driver"].update(informationUri="README.md"),
+            lambda it: it["runs"][0]["artifacts"][0]["location"].update(uri="a file.v"),
+        ):
+            document = json.loads(json.dumps(self.document))
+            spoil(document)
+            self.assertEqual(len(sarif_schema().faults(document)), 1)
+
     def test_version_and_tool(self) -> None:
         self.assertEqual(self.document["version"], "2.1.0")
         driver = self.document["runs"][0]["tool"]["driver"]
         self.assertEqual(driver["name"], "vault")
-        self.assertRegex(driver["version"], r"^\d+\.\d+")
+        self.assertEqual(driver["version"], (TOP / "VERSION").read_text(encoding="utf-8").strip())
+        self.assertTrue(driver["informationUri"].startswith("file:///"))
+
+    def test_several_files_are_one_run(self) -> None:
+        (run,) = self.document["runs"]
+        self.assertEqual([one["location"]["uri"] for one in run["artifacts"]], [*SHOWN, "nofile.v"])
+        self.assertEqual(len({one["locations"][0]["physicalLocation"]["artifactLocation"]["uri"] for one in run["results"]}), 4)
 
     def test_rules_are_those_of_the_results(self) -> None:
-        run = self.document["runs"][0]
-        rules = run["tool"]["driver"]["rules"]
-        for result in run["results"]:
+        rules = self.document["runs"][0]["tool"]["driver"]["rules"]
+        for result in self.results:
             self.assertEqual(rules[result["ruleIndex"]]["id"], result["ruleId"])
-        for rule in rules:
-            self.assertRegex(rule["helpUri"], r"^file:///.*docs/\w+\.md#")
+
+    def test_help_links_lead_to_parts_of_documents(self) -> None:
+        for rule in self.document["runs"][0]["tool"]["driver"]["rules"]:
+            path, _, anchor = rule["helpUri"].partition("#")
+            page = Path(path[len("file://") :]).read_text(encoding="utf-8")
+            headings = [re.sub(r"[^\w -]", "", line.lstrip("# ").lower()).replace(" ", "-") for line in page.split("\n") if line.startswith("#")]
+            self.assertTrue(anchor in headings or f'<a id="{anchor}"></a>' in page, rule["helpUri"])
 
     def test_places_have_an_end(self) -> None:
-        for result in self.document["runs"][0]["results"]:
+        for result in self.results:
             for location in [*result["locations"], *result.get("relatedLocations", [])]:
                 region = location["physicalLocation"]["region"]
                 self.assertGreater(region["endColumn"], region["startColumn"])
-                self.assertGreaterEqual(region["startLine"], 1)
+
+    def test_related_locations_are_what_led_there(self) -> None:
+        found = next(one for one in self.results if "lock_kept.v" in json.dumps(one["locations"]))
+        self.assertEqual([one["id"] for one in found["relatedLocations"]], list(range(len(found["relatedLocations"]))))
+        self.assertIn("the condition is true", [one["message"]["text"] for one in found["relatedLocations"]])
 
     def test_paths_are_flows(self) -> None:
-        found = {
-            result["locations"][0]["physicalLocation"]["artifactLocation"]["uri"]: result
-            for result in self.document["runs"][0]["results"]
-        }
+        found = {one["locations"][0]["physicalLocation"]["artifactLocation"]["uri"]: one for one in self.results}
         self.assertEqual(len(found["released_on_one_way.v"]["codeFlows"]), 2)
         self.assertEqual(len(found["lock_kept.v"]["codeFlows"]), 1)
+
+    def test_a_fix_is_a_change_that_was_tried(self) -> None:
+        found = next(one for one in self.results if "lock_kept.v" in json.dumps(one["locations"]))
+        change = found["fixes"][0]["artifactChanges"][0]
+        self.assertEqual(change["artifactLocation"]["uri"], "lock_kept.v")
+        self.assertEqual(change["replacements"][0]["insertedContent"]["text"], "        unlock(a);\n")
 
     def test_a_file_that_cannot_be_read_is_a_notification(self) -> None:
         invocation = self.document["runs"][0]["invocations"][0]
@@ -153,16 +207,68 @@ class Tags(HTMLParser):
             raise AssertionError(f"</{tag}> closes another tag")
 
 
+def luminance(colour: str) -> float:
+    """How light a colour is, by WCAG 2.1."""
+    digits = colour.lstrip("#")
+    parts = [int(digit * 2 if len(digits) == 3 else digit, 16) / 255 for digit in re.findall("." if len(digits) == 3 else "..", digits)]
+    red, green, blue = (part / 12.92 if part <= 0.03928 else ((part + 0.055) / 1.055) ** 2.4 for part in parts)
+    return 0.2126 * red + 0.7152 * green + 0.0722 * blue
+
+
 class Html(unittest.TestCase):
+    written = ""
+
+    @classmethod
+    def setUpClass(cls) -> None:
+        cls.written = page.write(pictures(judged([*SHOWN, "region_gone.v"], TOP / "examples")))
+        cls.tags = Tags()
+        cls.tags.feed(cls.written)
+
     def test_tags_ids_and_links(self) -> None:
-        tags = Tags()
-        tags.feed(page.write(pictures(judged([*SHOWN, "region_gone.v"], TOP / "examples"))))
+        tags = self.tags
         self.assertEqual(tags.open, [])
         self.assertEqual(len(tags.ids), len(set(tags.ids)))
         self.assertLessEqual({link[1:] for link in tags.links}, set(tags.ids))
         for name in ("main", "h1", "h2", "details", "mark"):
             self.assertIn(name, tags.names)
         self.assertNotIn("script", tags.names)
+
+    def test_what_is_said_stands_beside_the_source(self) -> None:
+        """Each article has a grid: the source, and after it the steps in their order; each step leads to its line."""
+        (article,) = re.findall(r"<article.*?</article>", page.write(pictures(judged(["lock_kept.v"], TOP / "examples"))), re.DOTALL)
+        beside = article.index('<div class="beside">')
+        self.assertLess(beside, article.index('<div class="source"'))
+        self.assertLess(article.index('<div class="source"'), article.index('class="said"'))
+        lines = [int(line) for line in re.findall(r'<li class="(?:step|fault)" id="[^"]*"><a href="#e1-0-(\d+)">', article)]
+        self.assertEqual(lines, [14, 15])
+        self.assertIn("grid-template-columns: minmax(0, 3fr) minmax(15em, 2fr)", page.STYLE)
+
+    def test_a_phone_has_one_column_and_no_page_to_scroll_sideways(self) -> None:
+        self.assertIn('<meta name="viewport" content="width=device-width, initial-scale=1">', self.written)
+        self.assertIn("@media (max-width: 50em) { .beside { grid-template-columns: minmax(0, 1fr); } }", page.STYLE)
+        self.assertIn("overflow-x: auto", page.STYLE)
+        # nothing is wider than a window of 20em, but the grid of wide windows
+        widths = [float(width) for width in re.findall(r"(?<!max-)width: ([\d.]+)em", page.STYLE)]
+        self.assertLess(max(widths), 20)
+
+    def test_screen_readers_have_a_structure_and_are_told_of_marks(self) -> None:
+        self.assertIn('<html lang="en">', self.written)
+        levels = [int(name[1]) for name in self.tags.names if re.fullmatch(r"h\d", name)]
+        self.assertEqual(levels[0], 1)
+        self.assertTrue(all(after - before <= 1 for before, after in zip(levels, levels[1:])), levels)
+        for name in re.findall(r"<mark[^>]*>", self.written):
+            self.assertIn(re.search(r'aria-describedby="([^"]*)"', name).group(1), self.tags.ids)
+        for name in re.findall(r'<div class="source"[^>]*>', self.written):
+            self.assertRegex(name, r'role="region" tabindex="0" aria-label="source of [^"]+\.v"')
+        self.assertNotIn('<ol class="said">\n</ol>', self.written)
+
+    def test_colours_are_readable_in_light_and_dark(self) -> None:
+        for mode in re.findall(r"--paper: [^}]*", page.STYLE):
+            colours = dict(re.findall(r"--(\w+): (#\w+);", mode))
+            for ink in ("ink", "dim", "fault", "step", "note", "key", "number"):
+                for paper in ("paper", "shade"):
+                    light, dark = sorted((luminance(colours[ink]), luminance(colours[paper])), reverse=True)
+                    self.assertGreaterEqual((light + 0.05) / (dark + 0.05), 4.5, (ink, paper, colours[ink]))
 
     def test_text_of_the_source_is_whole(self) -> None:
         written = page.write(pictures(judged(["lock_kept.v"], TOP / "examples")))

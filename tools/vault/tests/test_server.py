@@ -4,17 +4,23 @@ from __future__ import annotations
 import json
 import os
 import subprocess
+import tempfile
 import unittest
 from pathlib import Path
 from typing import Any, Dict, List, Optional
 
 from vault import paths, programs
-from vault.ask import take
+from vault.ask import Asker, take
 from vault.server import answers
-from vault.server.documents import Document, units
+from vault.server.documents import MOST_BYTES, Document, units
+from vault.server.loop import LONGEST
 
 VAULT = paths.TOP / "bin" / "vault"
 EXAMPLES = paths.TOP / "examples"
+# how long a busy machine may take for one step
+PATIENCE = 600
+INTERFACE = "stateset power { off, on }\nabstract disk@power;\nextern void start(tracked(K) disk d) [K@off->on];\nextern void stop(tracked(K) disk d) [K@on->off];\n"
+MODULE = "void restart(tracked(K) disk d) [K@on] {\n    stop(d);\n}\n"
 
 
 def has_vaultq() -> bool:
@@ -24,11 +30,16 @@ def has_vaultq() -> bool:
 class Client:
     """An editor: it sends messages, and reads the answers."""
 
-    def __init__(self, **environment: str) -> None:
+    def __init__(self, seconds: float = PATIENCE, **environment: str) -> None:
         self.server = subprocess.Popen(
-            [str(VAULT), "lsp"], stdin=subprocess.PIPE, stdout=subprocess.PIPE, stderr=subprocess.DEVNULL, env={**os.environ, **environment}
+            [str(VAULT), "lsp", "--seconds", str(seconds)],
+            stdin=subprocess.PIPE,
+            stdout=subprocess.PIPE,
+            stderr=subprocess.DEVNULL,
+            env={**os.environ, **environment},
         )
         self.number = 0
+        self.shown: List[str] = []
 
     def send_bytes(self, body: bytes) -> None:
         assert self.server.stdin
@@ -52,6 +63,8 @@ class Client:
         self.send({"id": self.number, "method": method, "params": params})
         while True:
             said = self.receive()
+            if said.get("method") == "window/showMessage":
+                self.shown.append(said["params"]["message"])
             if said.get("id") == self.number:
                 return said["result"] if "result" in said else said["error"]
 
@@ -63,16 +76,24 @@ class Client:
         self.notify("textDocument/didOpen", textDocument={"uri": uri, "languageId": "vault", "version": 1, "text": text})
         return self.errors()
 
-    def errors(self) -> List[Dict[str, Any]]:
+    def errors(self, uri: str = "") -> List[Dict[str, Any]]:
+        """The next errors that are told, of a text if it is said which."""
         while True:
             said = self.receive()
-            if said.get("method") == "textDocument/publishDiagnostics":
+            if said.get("method") == "textDocument/publishDiagnostics" and uri in ("", said["params"]["uri"]):
                 return said["params"]["diagnostics"]
+
+    def told(self) -> str:
+        """The next message that is shown to the person."""
+        while True:
+            said = self.receive()
+            if said.get("method") == "window/showMessage":
+                return said["params"]["message"]
 
     def end(self) -> Optional[int]:
         self.request("shutdown")
         self.notify("exit")
-        status = self.server.wait(10)
+        status = self.server.wait(PATIENCE)
         for stream in (self.server.stdin, self.server.stdout):
             if stream:
                 stream.close()
@@ -121,6 +142,18 @@ class OneFile(unittest.TestCase):
         self.assertEqual(self.ask("definition", position=place(13, 6))["range"]["start"], place(6, 6))
         self.assertEqual(len(self.ask("references", position=place(3, 9))), 6)
 
+    def test_an_error_leads_to_its_page(self) -> None:
+        (error,) = self.found
+        self.assertRegex(error["codeDescription"]["href"], r"docs/LANGUAGE\.md#keys$")
+        self.assertEqual((error["severity"], error["source"], error["code"]), (1, "vault", "protocol"))
+
+    def test_hover_tells_the_cure(self) -> None:
+        said = self.ask("hover", position=place(15, 10))["contents"]["value"]
+        self.assertIn("cure: `unlock(a);` before this `return`", said)
+
+    def test_highlights_are_the_uses(self) -> None:
+        self.assertEqual(len(self.ask("documentHighlight", position=place(3, 9))), 6)
+
     def test_renaming_is_refused_if_the_text_would_be(self) -> None:
         self.assertEqual(len(self.ask("rename", position=place(3, 9), newName="money")["changes"][self.uri]), 6)
         self.assertIn("would be refused", self.ask("rename", position=place(3, 9), newName="while")["message"])
@@ -155,8 +188,11 @@ class OneFile(unittest.TestCase):
     def test_what_is_no_message_is_answered_and_the_server_goes_on(self) -> None:
         self.client.send_bytes(b"abc")
         self.assertEqual(self.client.receive()["error"]["code"], -32700)
-        self.client.send_bytes(b"[]")
-        self.assertEqual(self.client.receive()["error"]["code"], -32600)
+        self.client.send_bytes(b"[" * 100000)
+        self.assertEqual(self.client.receive()["error"]["code"], -32700)
+        for wrong in (b"[]", b"7", b'{"jsonrpc": "1.0", "method": "x"}', b'{"jsonrpc": "2.0", "method": 7, "id": 1}', b'{"jsonrpc": "2.0"}'):
+            self.client.send_bytes(wrong)
+            self.assertEqual(self.client.receive()["error"]["code"], -32600)
         self.assertEqual(self.client.request("no/method")["code"], -32601)
         self.assertEqual(self.ask("hover")["code"], -32602)
         self.assertEqual(len(self.ask("documentSymbol")), 6)
@@ -172,24 +208,190 @@ class Instances(unittest.TestCase):
         self.assertEqual([it["label"] for it in hints], ["off: R@off · idle: R@idle"])
 
 
-class Programs(unittest.TestCase):
-    def test_a_program_that_dies_is_told_once(self) -> None:
-        client = Client(VAULTC="/bin/false", VAULTQ="/bin/false")
-        client.request("initialize", capabilities={})
-        self.addCleanup(client.end)
-        file = EXAMPLES / "lock.v"
-        errors = client.open(file.as_uri(), file.read_text(encoding="utf-8"))
-        self.assertEqual(len(errors), 1)
+class Modules(unittest.TestCase):
+    """Files that are judged beside an interface."""
 
-    def test_a_missing_program_is_told_with_the_way_to_build_it(self) -> None:
-        client = Client(VAULTC="/no/such/program")
+    def setUp(self) -> None:
+        programs.take("vaultc")
+        folder = tempfile.TemporaryDirectory()
+        self.addCleanup(folder.cleanup)
+        self.top = Path(folder.name).resolve()
+        self.client = Client()
+        self.client.request("initialize", capabilities={})
+        self.addCleanup(self.client.end)
+
+    def write(self, name: str, text: str) -> str:
+        (self.top / name).write_text(text, encoding="utf-8")
+        return (self.top / name).as_uri()
+
+    def ask(self, uri: str, method: str, **params: Any) -> Any:
+        return self.client.request(f"textDocument/{method}", textDocument={"uri": uri}, **params)
+
+    def assert_is_module(self, uri: str) -> None:
+        (error,) = self.client.open(uri, MODULE)
+        self.assertEqual(error["range"]["start"], place(3, 1))
+        self.assertIn("`restart` ends with `d` in state `off`", error["message"])
+        (action, *_) = self.ask(uri, "codeAction", range={"start": place(3, 1), "end": place(3, 1)}, context={"diagnostics": []})
+        self.assertEqual(action["title"], "insert start(d); before this brace")
+        (edit,) = action["edit"]["changes"][uri]
+        self.client.notify(
+            "textDocument/didChange",
+            textDocument={"uri": uri, "version": 2},
+            contentChanges=[{"range": edit["range"], "text": edit["newText"]}],
+        )
+        self.assertEqual(self.client.errors(), [])
+
+    def test_an_interface_beside_the_file(self) -> None:
+        self.write("disk.vi", INTERFACE)
+        self.assert_is_module(self.write("disk.v", MODULE))
+
+    def test_a_longer_name_belongs_to_the_same_interface(self) -> None:
+        self.write("disk.vi", INTERFACE)
+        self.assert_is_module(self.write("disk_again.v", MODULE))
+
+    def test_vault_json_names_interface_and_modules(self) -> None:
+        self.write("vault.json", '{ "interface": "api.v", "modules": ["one.v"] }')
+        self.write("api.v", INTERFACE)
+        self.assert_is_module(self.write("one.v", MODULE))
+
+    def test_a_file_that_vault_json_does_not_name_is_a_program(self) -> None:
+        self.write("vault.json", '{ "interface": "api.v", "modules": ["one.v"] }')
+        self.write("api.v", INTERFACE)
+        (error,) = self.client.open(self.write("two.v", MODULE), MODULE)
+        self.assertEqual(error["code"], "rule-1")
+
+    def test_an_interface_is_judged_by_itself(self) -> None:
+        uri = self.write("disk.vi", INTERFACE)
+        self.assertEqual(self.client.open(uri, INTERFACE), [])
+        self.client.notify(
+            "textDocument/didChange", textDocument={"uri": uri, "version": 2}, contentChanges=[{"text": INTERFACE.replace("@on", "@onn")}]
+        )
+        (error,) = self.client.errors()
+        self.assertIn("`onn` is no state of `disk`", error["message"])
+
+    def test_a_module_follows_its_interface_as_it_is_typed(self) -> None:
+        interface = self.write("disk.vi", INTERFACE)
+        module = self.write("disk.v", MODULE.replace("stop(d);", "stop(d);\n    start(d);"))
+        self.assertEqual(self.client.open(interface, INTERFACE), [])
+        self.assertEqual(self.client.open(module, (self.top / "disk.v").read_text(encoding="utf-8")), [])
+        self.client.notify(
+            "textDocument/didChange", textDocument={"uri": interface, "version": 2}, contentChanges=[{"text": INTERFACE.replace("off->on", "off")}]
+        )
+        (error,) = self.client.errors(module)
+        self.assertIn("`restart` ends", error["message"])
+
+    def test_names_of_the_interface(self) -> None:
+        interface = self.write("disk.vi", INTERFACE)
+        module = self.write("disk.v", MODULE)
+        self.client.open(module, MODULE)
+        self.assertEqual(self.ask(module, "definition", position=place(2, 6))["uri"], interface)
+        self.assertIn("void stop(tracked(K) disk d) [K@on->off]", self.ask(module, "hover", position=place(2, 6))["contents"]["value"])
+        self.assertIn("start", [it["label"] for it in self.ask(module, "completion", position=place(2, 5))])
+
+    def test_keys_of_a_module(self) -> None:
+        if not has_vaultq():
+            self.skipTest("there is no vaultq")
+        self.write("disk.vi", INTERFACE)
+        module = self.write("disk.v", MODULE)
+        self.client.open(module, MODULE)
+        hints = self.ask(module, "inlayHint", range={"start": place(1, 1), "end": place(9, 1)})
+        self.assertEqual([(it["position"]["line"] + 1, it["label"]) for it in hints], [(2, "K@off")])
+
+    def test_a_setup_that_cannot_be_read_is_told_once(self) -> None:
+        self.write("vault.json", "{ interface: }")
+        uri = self.write("one.v", "void main() {\n}\n")
+        self.client.notify("textDocument/didOpen", textDocument={"uri": uri, "languageId": "vault", "version": 1, "text": "void main() {\n}\n"})
+        self.assertIn("vault.json: this isn't JSON", self.client.told())
+        self.assertEqual(self.client.errors(), [])
+        self.client.shown.clear()
+        self.ask(uri, "documentSymbol")
+        self.assertEqual(self.client.shown, [])
+
+
+class Programs(unittest.TestCase):
+    """Programs that fail, and texts that are too long."""
+
+    def client(self, seconds: float = PATIENCE, **environment: str) -> Client:
+        client = Client(seconds, **environment)
         client.request("initialize", capabilities={})
         self.addCleanup(client.end)
+        return client
+
+    def script(self, text: str) -> str:
+        folder = tempfile.TemporaryDirectory()
+        self.addCleanup(folder.cleanup)
+        path = Path(folder.name) / "vaultc"
+        path.write_text(f"#!/bin/sh\n{text}\n", encoding="utf-8")
+        path.chmod(0o755)
+        return str(path)
+
+    def open_twice(self, client: Client) -> str:
+        """Opens a text and changes it; what is told the first time. That nothing is told again is seen by the answer to a request."""
         file = EXAMPLES / "lock.v"
-        client.notify("textDocument/didOpen", textDocument={"uri": file.as_uri(), "version": 1, "text": ""})
-        said = client.receive()
-        self.assertEqual(said["method"], "window/showMessage")
-        self.assertIn("vault build", said["params"]["message"])
+        client.notify("textDocument/didOpen", textDocument={"uri": file.as_uri(), "version": 1, "text": "void main() {\n}\n"})
+        told = client.told()
+        client.shown.clear()
+        for _ in range(2):
+            client.request("textDocument/codeAction", textDocument={"uri": file.as_uri()}, range={"start": place(1, 1), "end": place(1, 1)})
+        self.assertEqual(client.shown, [])
+        self.assertEqual(len(client.request("textDocument/documentSymbol", textDocument={"uri": file.as_uri()})), 1)
+        return told
+
+    def test_a_program_that_dies_is_told_once(self) -> None:
+        script = self.script("echo it broke >&2; kill -9 $$")
+        told = self.open_twice(self.client(VAULTC=script, VAULTQ=script))
+        self.assertRegex(told, r"ended with status 137")
+
+    def test_a_program_without_a_word_is_told_once(self) -> None:
+        told = self.open_twice(self.client(VAULTC="/bin/false", VAULTQ="/bin/false"))
+        self.assertIn("/bin/false ended with status 1", told)
+
+    def test_a_program_that_takes_too_long_is_ended_and_told(self) -> None:
+        script = self.script("exec sleep 100000")
+        told = self.open_twice(self.client(0.2, VAULTC=script, VAULTQ=script))
+        self.assertIn("no answer within 0.2 seconds", told)
+
+    def test_a_program_may_take_five_seconds(self) -> None:
+        self.assertEqual(LONGEST, 5.0)
+
+    def test_a_missing_program_is_told_once_with_the_way_to_build_it(self) -> None:
+        self.assertIn("vault build", self.open_twice(self.client(VAULTC="/no/such/program")))
+
+    def test_a_long_text_gets_its_errors_alone(self) -> None:
+        programs.take("vaultc")
+        client = self.client()
+        file = EXAMPLES / "long.v"
+        text = "// " + "x" * MOST_BYTES + "\nvoid main() {\n    print(y);\n}\n"
+        (error,) = client.open(file.as_uri(), text)
+        self.assertEqual((error["message"], error["range"]["start"]), ("kind 27 3:11", place(3, 11)))
+        for method, more in (("hover", {"position": place(3, 11)}), ("documentSymbol", {}), ("formatting", {"options": {}})):
+            self.assertIsNone(client.request(f"textDocument/{method}", textDocument={"uri": file.as_uri()}, **more))
+        text = text.replace("print(y)", "print(1)")
+        client.notify("textDocument/didChange", textDocument={"uri": file.as_uri(), "version": 2}, contentChanges=[{"text": text}])
+        self.assertEqual(client.errors(), [])
+
+
+class Quick(unittest.TestCase):
+    """What is asked of a text while it is typed: few questions, and none for cures."""
+
+    def test_errors_take_two_questions(self) -> None:
+        asked: List[str] = []
+
+        class Counted(programs.Program):
+            def ask(self, words, **more):  # type: ignore[override]
+                asked.append(words[0])
+                return super().ask(words, **more)
+
+        taken = take()
+        if taken.vaultq is None:
+            self.skipTest("there is no vaultq")
+        counted = Asker(*(Counted(one.name, one.path, one.proved, one.command) for one in (taken.vaultc, taken.vaultq)))
+        file = EXAMPLES / "lock_kept.v"
+        document = Document(file.as_uri(), file.read_text(encoding="utf-8"))
+        self.assertEqual(len(document.errors(counted)), 1)
+        self.assertEqual(asked, ["paths", "keys"])
+        document.tables(counted)
+        self.assertLessEqual(len(asked), 3)
 
 
 class Positions(unittest.TestCase):
