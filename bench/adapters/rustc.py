@@ -2,6 +2,7 @@
 from __future__ import annotations
 
 import json
+import tempfile
 from pathlib import Path
 from typing import Any, Dict, Iterator, List, Tuple
 
@@ -11,10 +12,13 @@ TITLE, PROGRAM, ENDING = "rustc", "rustc", "rs"
 VERSION = ["rustc", "--version"]
 RELEVANT = {"E0382": "moved", "E0499": "borrowed twice", "E0502": "borrowed", "E0505": "moved while borrowed", "E0507": "moved out of a borrow", "E0308": "another type", "E0004": "a case is missing"}
 
+# rustc puts a new file in the place of its output, also in that of /dev/null if it may
+OUTPUT = tempfile.TemporaryDirectory(prefix="vault-bench-")
+
 
 def command(text: Path, include: Path) -> List[str]:
     """How rustc is called on a text."""
-    return [PROGRAM, "--edition", "2021", "--emit", "metadata", "-o", "/dev/null", "--error-format", "json", str(text)]
+    return [PROGRAM, "--edition", "2021", "--emit", "metadata", "--out-dir", OUTPUT.name, "--error-format", "json", str(text)]
 
 
 def diagnostics(output: str, name: str, status: int) -> List[Diagnostic]:
