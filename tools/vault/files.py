@@ -1,4 +1,4 @@
-"""Writes files so that they are whole at each moment."""
+"""Writes files, so that they are whole at each moment where they replace others."""
 from __future__ import annotations
 
 import os
@@ -22,5 +22,13 @@ def replace_file(path: Path, data: bytes) -> None:
         except BaseException:
             os.unlink(part)
             raise
+    except OSError as error:
+        raise Problem(f"{path}: {error.strerror}", OUTPUT_FAILED)
+
+
+def write_file(path: Path, data: bytes) -> None:
+    """Writes a file; its folder has to be there."""
+    try:
+        path.write_bytes(data)
     except OSError as error:
         raise Problem(f"{path}: {error.strerror}", OUTPUT_FAILED)

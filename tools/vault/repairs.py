@@ -197,8 +197,33 @@ class RuleRepairs(Near):
                 written = self.view.text_of(other.span)
                 edits = (put_before(self.text, one.span.start, [written]), drop(self.text, other.span))
                 yield Cure(f"move `{short(written)}` before this statement", edits)
+        yield from self.of_missing_function(name, one)
         for written in self.bindings(name, one):
             yield Cure(f"insert `{written}`", (put_before(self.text, one.span.start, [written]),))
+
+    def of_missing_function(self, name: str, one: s.Statement) -> Iterator[Cure]:
+        """An external of this name, with the types of what the call is given."""
+        call = call_of(one)
+        if call is None or call.callee.text != name or call.callee.span.start != self.offset:
+            return
+        kinds = [self.type_of(argument) for argument in call.arguments]
+        keys = [kind.key for kind in kinds if kind.form == "held"]
+        result = one.type if isinstance(one, s.Declare) else None
+        gives = f"new {result.key}" if result is not None and result.form == "held" else ""
+        listed = ", ".join(f"{kind} x{number}" for number, kind in enumerate(kinds, 1))
+        end = len(self.text.rstrip())
+        for sign in ("", "-") if keys else ("",):
+            entries = ", ".join([*(sign + key for key in dict.fromkeys(keys)), *([gives] if gives else [])])
+            written = f"extern {result or 'void'} {name}({listed})" + (f" [{entries}];" if entries else ";")
+            yield Cure(f"declare `{written}`", (Edit(s.Span(end, end), f"\n{written}"),))
+
+    def type_of(self, argument: s.Expression) -> s.Type:
+        """The type of an argument: that of a variable, else the one that its sign has."""
+        found = self.scope.find(argument.text) if self.scope and argument.kind == "name" else None
+        if found is not None and found.type is not None:
+            return found.type
+        signs = {"==", "!=", "<", "<=", ">", ">=", "&&", "||", "!"}
+        return s.Type("bool" if argument.kind == "bool" or argument.text in signs else "int")
 
     def bindings(self, name: str, one: s.Statement) -> Iterator[str]:
         """Statements that bind a name as a statement uses it."""

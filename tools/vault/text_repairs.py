@@ -3,9 +3,9 @@ from __future__ import annotations
 
 from typing import Iterator, List, Optional
 
-from .edits import indent
 from .picture import Cure, Edit, View
 from .report import TextFault
+from .source import Source
 from .syntax import Span
 from .tokens import Token, tokens
 
@@ -15,25 +15,32 @@ PAIRS = {"(": ")", "[": "]"}
 
 def text_repairs(view: View, fault: TextFault) -> Iterator[Cure]:
     """Changes to try, the likelier ones first."""
-    return TextRepairs(view, fault).all()
+    offset = view.offset(fault.place) if fault.place else len(view.source.text.rstrip())
+    return TextRepairs(view.source, offset).all()
 
 
 class TextRepairs:
     """A text that the grammar doesn't take, and the token at which it is refused."""
 
-    def __init__(self, view: View, fault: TextFault) -> None:
-        self.text = view.source.text
-        self.lines = view.source.lines
-        self.starts = view.source.starts
-        self.offset = view.offset(fault.place) if fault.place else len(self.text.rstrip())
+    def __init__(self, source: Source, offset: int) -> None:
+        self.text = source.text
+        self.lines = source.lines
+        self.starts = source.starts
+        self.offset = offset
         self.tokens = tokens(self.text)
         self.number = next((n for n, token in enumerate(self.tokens) if token.start >= self.offset), len(self.tokens) - 1)
-        self.line = view.source.place(min(self.offset, len(self.text))).line - 1
+        self.line = source.place(min(self.offset, len(self.text))).line - 1
+
+    @staticmethod
+    def of(text: str) -> "TextRepairs":
+        """Of a text by itself."""
+        return TextRepairs(Source("", text.encode("utf-8", "replace")), len(text))
 
     def all(self) -> Iterator[Cure]:
         yield from self.of_signs()
         yield from self.of_doubled_lines()
         yield from self.of_braces()
+        yield from self.of_moved_braces()
         yield from self.of_lines()
         yield from self.of_heads()
 
@@ -123,8 +130,8 @@ class TextRepairs:
     def of_braces(self) -> Iterator[Cure]:
         """Braces where the indentation says that a block ends, or that there is none."""
         depths = self.depths()
-        width = next((len(indent(self.text, start)) for start, depth in zip(self.starts, depths) if depth == 1), 4) or 4
-        levels = [len(line) - len(line.lstrip(" ")) for line in self.lines]
+        width = self.width()
+        levels = [self.level(number) for number in range(len(self.lines))]
         for number, (line, depth) in enumerate(zip(self.lines, depths)):
             if not line.strip() or levels[number] == depth * width:
                 continue
@@ -143,6 +150,31 @@ class TextRepairs:
         end = len(self.text.rstrip())
         if self.offset >= end:
             yield Cure("insert `}` at the end", (Edit(Span(end, end), "\n}"),))
+
+    def of_moved_braces(self) -> Iterator[Cure]:
+        """A closing brace on a line of its own that stands too early: where the indentation wants it."""
+        for number in self.near(4):
+            if self.lines[number].strip() != "}":
+                continue
+            rest = TextRepairs.of("\n".join([*self.lines[:number], *self.lines[number + 1 :]]))
+            at = rest.too_deep()
+            if at is None:
+                continue
+            blanks = " " * ((rest.depths()[at] - 1) * rest.width())
+            target = self.starts[at if at < number else at + 1]
+            edits = (Edit(self.span_of(number), ""), Edit(Span(target, target), f"{blanks}}}\n"))
+            yield Cure(f"move this `}}` to line {at + 1}", edits)
+
+    def too_deep(self) -> Optional[int]:
+        """The first line that the indentation has less deep than the braces."""
+        for number, (line, depth) in enumerate(zip(self.lines, self.depths())):
+            if line.strip() and self.level(number) < depth * self.width():
+                return number
+        return None
+
+    def width(self) -> int:
+        """How many blanks a block is indented by."""
+        return next((self.level(n) for n, depth in enumerate(self.depths()) if depth == 1 and self.level(n)), 4)
 
     def without_block(self, number: int, level: int) -> Iterator[Cure]:
         """Lines that are indented as a block, but whose head is missing: without their closing brace, or without all of them."""

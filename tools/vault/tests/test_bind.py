@@ -176,7 +176,7 @@ class Bindings(unittest.TestCase):
                 service = self.folder / f"echo_{compiler}"
                 words = [compiler, *drivers.FLAGS, *SANITIZE, f'-DVAULT_PROGRAM="{text}"', "-I", str(self.folder), "-I", str(RUNTIME)]
                 subprocess.run([*words, *map(str, files), "-o", str(service)], check=True)
-                done = subprocess.run([str(client), str(service)], stdout=subprocess.PIPE, universal_newlines=True, timeout=60)
+                done = subprocess.run([str(client), str(service)], stdout=subprocess.PIPE, universal_newlines=True, timeout=600)
                 self.assertEqual(done.returncode, 0, done.stdout)
 
     def test_the_file_copier(self) -> None:

@@ -70,7 +70,7 @@ class Copies(unittest.TestCase):
         line = next(number for number, it in enumerate(source.read_text().splitlines(), 1) if "s.last = s.last + 1" in it)
         asked = [f"break 3_clauses.v:{line}", "run", "backtrace", "print v_limit"]
         gdb = ["gdb", "-batch", "-nx", *(word for it in asked for word in ("-ex", it)), str(program)]
-        said = subprocess.run(gdb, stdout=subprocess.PIPE, stderr=subprocess.STDOUT, universal_newlines=True, timeout=120).stdout
+        said = subprocess.run(gdb, stdout=subprocess.PIPE, stderr=subprocess.STDOUT, universal_newlines=True, timeout=600).stdout
         self.assertIn("s.last = s.last + 1;", said)
         self.assertRegex(said, r"#1 .* in v_main \(\) at .*3_clauses\.v")
         self.assertIn("$1 = 30", said)

@@ -3,16 +3,21 @@ from __future__ import annotations
 
 import json
 import os
+import re
 import shutil
 import subprocess
 import tempfile
 import unittest
+import zipfile
 from pathlib import Path
 from typing import List
+from xml.etree import ElementTree
 
-from vault import paths, programs
+from vault import cli, paths, programs, vsix
 from vault.ask import take
+from vault.forms import gcc
 
+from .golden import judged
 from .test_server import INTERFACE, MODULE, PATIENCE
 
 EDITORS = paths.TOP / "editors"
@@ -70,6 +75,38 @@ class OtherEditors(unittest.TestCase):
     def test_files_of_vs_code_are_json(self) -> None:
         for file in [*EDITORS.glob("vscode/*.json"), *EDITORS.glob("vscode/syntaxes/*.json")]:
             json.loads(file.read_text(encoding="utf-8"))
+
+    def test_the_extension_of_vs_code_is_packed(self) -> None:
+        with tempfile.TemporaryDirectory() as folder:
+            self.assertEqual(cli.main(["package", "--vsix", "--to", folder]), 0)
+            (file,) = Path(folder).iterdir()
+            self.assertEqual(file.read_bytes(), vsix.pack(EDITORS / "vscode"))
+            with zipfile.ZipFile(file) as packed:
+                self.assertIsNone(packed.testzip())
+                said = json.loads(packed.read("extension/package.json").decode("utf-8"))
+                manifest = ElementTree.fromstring(packed.read("extension.vsixmanifest"))
+                names = packed.namelist()
+        identity = next(it for it in manifest.iter() if it.tag.endswith("}Identity"))
+        self.assertEqual((identity.get("Id"), identity.get("Publisher")), (said["name"], said["publisher"]))
+        self.assertTrue(said["version"].startswith((paths.TOP / "VERSION").read_text(encoding="utf-8").strip()))
+        for part in [*said["contributes"]["grammars"], {"path": said["contributes"]["languages"][0]["configuration"]}]:
+            self.assertIn("extension/" + part["path"][2:], names)
+
+    def test_the_problem_matcher_reads_the_lines_of_gcc(self) -> None:
+        programs.take("vaultc")
+        said = json.loads((EDITORS / "vscode" / "package.json").read_text(encoding="utf-8"))
+        pattern = said["contributes"]["problemMatchers"][0]["pattern"]
+        written = gcc.write([one for file in judged(["lock_kept.v"], paths.TOP / "examples") for one in file.pictures])
+        for line in written.splitlines():
+            met = re.match(pattern["regexp"], line)
+            self.assertIsNotNone(met, line)
+            self.assertEqual(met.group(pattern["file"]), "lock_kept.v")
+
+    def test_each_editor_is_set_up_in_five_lines(self) -> None:
+        text = (EDITORS / "README.md").read_text(encoding="utf-8")
+        for name in ("Neovim", "Vim", "Emacs", "Helix", "VS Code"):
+            block = text.partition(f"**{name}**")[2].partition("```\n")[2].partition("```")[0]
+            self.assertTrue(0 < len(block.splitlines()) <= 5, name)
 
     def test_emacs_reads_its_mode(self) -> None:
         if shutil.which("emacs") is None:

@@ -73,7 +73,7 @@ class Kept(unittest.TestCase):
 
     def test_interrupt_ends_the_children_and_leaves_nothing(self) -> None:
         for number, status in ((signal.SIGINT, 130), (signal.SIGTERM, 143)):
-            started = self.small.start("vault", "build", RT_DO=f"pathlib.Path({str(self.small.base / 'rt')!r}).write_text(str(os.getpid())); time.sleep(30)")
+            started = self.small.start("vault", "build", RT_DO=f"pathlib.Path({str(self.small.base / 'rt')!r}).write_text(str(os.getpid())); time.sleep(600)")
             while not (self.small.base / "rt").exists() or not (self.small.base / "rt").read_text():
                 time.sleep(0.02)
             started.send_signal(number)
@@ -168,7 +168,7 @@ class AsVaultc(unittest.TestCase):
             self.assertEqual(self.small.run("vaultc", "ends", str(status)).returncode, status)
 
     def test_output_comes_at_once_and_signals_arrive(self) -> None:
-        started = self.small.start("vaultc", "sleep", "30")
+        started = self.small.start("vaultc", "sleep", "600")
         self.addCleanup(started.communicate)
         self.assertEqual(started.stdout.readline(), "began\n")
         started.send_signal(signal.SIGTERM)

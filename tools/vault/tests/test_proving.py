@@ -62,7 +62,7 @@ class Proved(unittest.TestCase):
 
     def test_interrupt_ends_the_children(self) -> None:
         mark = self.small.base / "rt"
-        started = self.small.start(*BUILD, RT_DO=f"pathlib.Path({str(mark)!r}).write_text(str(os.getpid())); time.sleep(30)")
+        started = self.small.start(*BUILD, RT_DO=f"pathlib.Path({str(mark)!r}).write_text(str(os.getpid())); time.sleep(600)")
         while not mark.exists() or not mark.read_text():
             time.sleep(0.02)
         started.send_signal(signal.SIGINT)
@@ -130,10 +130,10 @@ class Memory(unittest.TestCase):
                 run.run()
 
     def test_largest_process_of_a_session_is_seen(self) -> None:
-        words = ["sh", "-c", "python3 -c 'import time; held = b\"x\" * 60_000_000; time.sleep(60)'; true"]
+        words = ["sh", "-c", "python3 -c 'import time; held = b\"x\" * 60_000_000; time.sleep(600)'; true"]
         session = processes.Session(words, self.small.base, self.small.base / "log")
         self.addCleanup(session.stop)
-        until = time.monotonic() + 60
+        until = time.monotonic() + 600
         while time.monotonic() < until:
             sizes = processes.resident([session.number])[session.number]
             if sizes and max(sizes) > 60_000_000:

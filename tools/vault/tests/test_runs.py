@@ -29,7 +29,7 @@ def vault(*words: str, files: Dict[str, str] = {}) -> Tuple[int, str, str]:
             (Path(name) / file).write_text(text, encoding="utf-8")
         typed = [word.replace("{", f"{name}/").replace("}", "") for word in words]
         ran = subprocess.run(
-            [str(VAULT), *typed], cwd=TOP, stdout=subprocess.PIPE, stderr=subprocess.PIPE, universal_newlines=True, timeout=60
+            [str(VAULT), *typed], cwd=TOP, stdout=subprocess.PIPE, stderr=subprocess.PIPE, universal_newlines=True, timeout=600
         )
         return ran.returncode, ran.stdout, ran.stderr
 
