@@ -1,6 +1,10 @@
 """Modules beside their interface: pictures at the places of the files."""
 from __future__ import annotations
 
+import json
+import shutil
+import subprocess
+import sys
 import tempfile
 import unittest
 from pathlib import Path
@@ -63,6 +67,37 @@ class Modules(GoldenCase):
             length = piece.span.end - piece.span.start
             self.assertEqual(view.source.text[piece.at : piece.at + length], piece.source.text[piece.span.start : piece.span.end])
             self.assertEqual(view.origin(piece.at), (piece.source, piece.span.start))
+
+
+class Links(unittest.TestCase):
+    """`vault link`: what is refused is shown at its place, and what is written isn't touched."""
+
+    def link(self, second: str, *words: str) -> "subprocess.CompletedProcess[str]":
+        with tempfile.TemporaryDirectory() as name:
+            (Path(name) / "second.v").write_text(second, encoding="utf-8")
+            shutil.copyfile(TOP / INTERFACE, Path(name) / "interface.v")
+            shutil.copyfile(TOP / "examples" / "modules" / "disk.v", Path(name) / "disk.v")
+            command = [sys.executable, str(TOP / "bin" / "vault"), "link", *words, "interface.v", "disk.v", "second.v"]
+            return subprocess.run(
+                command, cwd=name, stdin=subprocess.DEVNULL, stdout=subprocess.PIPE, stderr=subprocess.PIPE, universal_newlines=True
+            )
+
+    def test_a_good_pair_is_written(self) -> None:
+        done = self.link("void main() {\n    tracked(K) disk d = make(1);\n    remove(d);\n}\n")
+        self.assertEqual((done.returncode, done.stderr), (0, ""))
+        self.assertIn("vault_rt.h", done.stdout)
+
+    def test_an_error_on_keys_has_its_path(self) -> None:
+        done = self.link("void main() {\n    tracked(K) disk d = make(1);\n    if (1 > 0) {\n        write(d, 1);\n    }\n    remove(d);\n}\n")
+        self.assertEqual((done.returncode, done.stdout), (8, ""))
+        self.assertIn("second.v:4:9: error: `write` needs `d` in state `on`, but it is `off`", done.stderr)
+        self.assertIn("the condition is true", done.stderr)
+        self.assertIn("interface.v", done.stderr)
+
+    def test_two_modules_with_one_name(self) -> None:
+        done = self.link("void start(tracked(K) disk d) [K@off->on] {\n}\nvoid main() {\n}\n", "--format", "sarif")
+        self.assertNotEqual(done.returncode, 0)
+        self.assertEqual(json.loads(done.stdout)["runs"][0]["results"][0]["level"], "error")
 
 
 if __name__ == "__main__":

@@ -2,12 +2,15 @@
 from __future__ import annotations
 
 import json
+import os
 import re
+import sys
 import tempfile
 import unittest
 from html.parser import HTMLParser
 from pathlib import Path
 from typing import Dict, List
+from unittest import mock
 
 from vault.forms import gcc, json_form, page, sarif, text
 from vault.judge import Judged
@@ -275,6 +278,29 @@ class Html(unittest.TestCase):
         bare = re.sub(r'<span class="n"[^>]*>\d+</span>|<[^>]+>', "", written)
         for line in (TOP / "examples" / "lock_kept.v").read_text(encoding="utf-8").splitlines():
             self.assertIn(line.replace("<", "&lt;").replace(">", "&gt;"), bare)
+
+
+class Terminals(unittest.TestCase):
+    """Colour and width of text, by what standard output is and what the environment says."""
+
+    def style(self, choice: str = "auto", terminal: bool = True, **environment: str) -> text.Style:
+        clean = {name: value for name, value in os.environ.items() if name not in ("NO_COLOR", "TERM", "COLUMNS")}
+        with mock.patch.dict(os.environ, {**clean, "TERM": "xterm", **environment}, clear=True):
+            with mock.patch.object(sys, "stdout", mock.Mock(isatty=lambda: terminal)):
+                return text.style_of(choice)
+
+    def test_colour_is_for_terminals(self) -> None:
+        self.assertTrue(self.style().colour)
+        self.assertFalse(self.style(terminal=False).colour)
+        self.assertFalse(self.style(NO_COLOR="1").colour)
+        self.assertFalse(self.style(TERM="dumb").colour)
+        self.assertFalse(self.style("never").colour)
+        self.assertTrue(self.style("always", False, NO_COLOR="1").colour)
+
+    def test_text_is_wrapped_to_the_window(self) -> None:
+        self.assertEqual(self.style(COLUMNS="63").width, 63)
+        self.assertEqual(self.style(terminal=False, COLUMNS="63").width, 63)
+        self.assertEqual(self.style(terminal=False).width, text.PIPE_WIDTH)
 
 
 class Text(unittest.TestCase):

@@ -1,18 +1,22 @@
 """What `vaultq` adds: all errors on keys with their paths, and the keys at each point, by which second places are found."""
 from __future__ import annotations
 
+import json
 import unittest
-from typing import List, Tuple
+from typing import List, Optional, Tuple
 
 from vault import ask
 from vault.ask import Asker
+from vault.forms import gcc, json_form, page, sarif, text
 from vault.judge import Judged, Wishes, judge, judge_all, judge_text
 from vault.paths import TOP
 from vault.picture import Picture
+from vault.programs import Program
 from vault.report import KeyFault, read_reports
 from vault.source import Source
 
-from .golden import MISTAKES, folder
+from .golden import MISTAKES, WIDTH, GoldenCase, folder
+from .schema import sarif_schema
 
 WISHES = Wishes(cures=False)
 SIX = """\
@@ -82,6 +86,75 @@ class Questions(unittest.TestCase):
         self.assertEqual(len(found), len(KEYS))
         for one in found:
             self.assertTrue(any(cure.tested and cure.edits for cure in one.cures), one.report)
+
+
+class Forms(GoldenCase):
+    """All errors of a text in each form, as they were looked at."""
+
+    files: List[Judged] = []
+
+    def setUp(self) -> None:
+        asker = ask.take()
+        if asker.vaultq is None:
+            self.skipTest("there is no vaultq")
+        if not Forms.files:
+            Forms.files = [judge_text(Source("six.v", SIX.encode()), asker, Wishes())]
+
+    def pictures(self) -> List[Picture]:
+        return [picture for one in self.files for picture in one.pictures]
+
+    def test_text(self) -> None:
+        self.assert_golden("six.txt", text.write(self.pictures(), text.Style(WIDTH)))
+
+    def test_gcc(self) -> None:
+        self.assert_golden("six.gcc", gcc.write(self.pictures()))
+
+    def test_sarif(self) -> None:
+        written = sarif.write(self.files)
+        self.assertEqual(sarif_schema().faults(json.loads(written)), [])
+        self.assert_golden("six.sarif", written)
+
+    def test_json(self) -> None:
+        self.assert_golden("six.json", json_form.write(self.files))
+
+    def test_html(self) -> None:
+        self.assert_golden("six.html", page.write(self.pictures()))
+
+
+class Counted(Program):
+    """A program, and how often it is asked."""
+
+    asked: List[str] = []
+
+    def ask(self, words, **more):  # type: ignore[override]
+        Counted.asked.append(words[0])
+        return super().ask(words, **more)
+
+
+class Costs(unittest.TestCase):
+    """How many questions a picture takes: each is the start of a program."""
+
+    def questions(self, name: str, asker: Asker) -> int:
+        Counted.asked.clear()
+        with folder(MISTAKES):
+            judge(name, asker, WISHES)
+        return len(Counted.asked)
+
+    def counted(self, one: Optional[Program]) -> Optional[Program]:
+        return Counted(one.name, one.path, one.proved, one.command) if one else None
+
+    def test_what_was_expected_takes_few_questions(self) -> None:
+        asker = Asker(self.counted(ask.take().vaultc), None)
+        for file in sorted(MISTAKES.glob("a*.v"))[::5]:
+            self.assertLessEqual(self.questions(file.name, asker), 48, file.name)
+
+    def test_errors_on_keys_take_two(self) -> None:
+        taken = ask.take()
+        if taken.vaultq is None:
+            self.skipTest("there is no vaultq")
+        asker = Asker(self.counted(taken.vaultc), self.counted(taken.vaultq))
+        for file in sorted(MISTAKES.glob("c*.v"))[::5]:
+            self.assertEqual(self.questions(file.name, asker), 2, file.name)
 
 
 class SecondPlaces(unittest.TestCase):
