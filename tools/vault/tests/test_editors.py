@@ -28,7 +28,7 @@ class Neovim(unittest.TestCase):
     def setUp(self) -> None:
         if shutil.which("nvim") is None:
             self.skipTest("nvim isn't installed")
-        programs.take("vaultc")
+        take()
         folder = tempfile.TemporaryDirectory()
         self.addCleanup(folder.cleanup)
         self.top = Path(folder.name)
@@ -69,6 +69,36 @@ class Neovim(unittest.TestCase):
         seen = self.top / "seen"
         self.nvim(str(self.top / "new.v"), "-c", f"call writefile([&filetype], '{seen}')", "-c", "qa!")
         self.assertEqual(seen.read_text(), "vault\n")
+
+
+    def test_a_file_whose_first_line_says_so_is_vaults(self) -> None:
+        file, seen = self.top / "one.v", self.top / "seen"
+        file.write_text("// vault\n", encoding="utf-8")
+        self.nvim(str(file), "-c", f"call writefile([&filetype], '{seen}')", "-c", "qa!")
+        self.assertEqual(seen.read_text(), "vault\n")
+
+
+class Vim(unittest.TestCase):
+    def filetype(self, name: str, text: str, setup: bool) -> str:
+        if shutil.which("vim") is None:
+            self.skipTest("vim isn't installed")
+        with tempfile.TemporaryDirectory() as folder:
+            file, seen = Path(folder) / name, Path(folder) / "seen"
+            if text:
+                file.write_text(text, encoding="utf-8")
+            if setup:
+                (Path(folder) / "vault.json").write_text("{}", encoding="utf-8")
+            words = ["vim", "-Nu", "NONE", "-i", "NONE", "-es", "--cmd", f"set runtimepath+={EDITORS / 'vim'} | filetype plugin on", str(file)]
+            words += ["-c", f"call writefile([&filetype], '{seen}')", "-c", "qa!"]
+            subprocess.run(words, stdin=subprocess.DEVNULL, stdout=subprocess.DEVNULL, timeout=PATIENCE, env={**os.environ, "TERM": "dumb"})
+            return seen.read_text(encoding="utf-8").strip()
+
+    def test_which_files_are_vaults(self) -> None:
+        self.assertEqual(self.filetype("new.v", "", True), "vault")
+        self.assertEqual(self.filetype("one.v", "// vault\n", False), "vault")
+        self.assertEqual(self.filetype("two.v", "stateset power { off, on }\n", False), "vault")
+        self.assertNotEqual(self.filetype("other.v", "module adder(input a, output b);\nendmodule\n", False), "vault")
+        self.assertEqual(self.filetype("disk.vi", "abstract disk;\n", False), "vault")
 
 
 class OtherEditors(unittest.TestCase):

@@ -1,10 +1,12 @@
 """The language server, by messages as an editor sends them."""
 from __future__ import annotations
 
+import io
 import json
 import os
 import subprocess
 import tempfile
+import time
 import unittest
 from pathlib import Path
 from typing import Any, Dict, List, Optional
@@ -13,7 +15,7 @@ from vault import paths, programs
 from vault.ask import Asker, take
 from vault.server import answers
 from vault.server.documents import MOST_BYTES, Document, units
-from vault.server.loop import LONGEST
+from vault.server.loop import LONGEST, REST, Server
 
 VAULT = paths.TOP / "bin" / "vault"
 EXAMPLES = paths.TOP / "examples"
@@ -106,7 +108,7 @@ def place(line: int, character: int) -> Dict[str, int]:
 
 class OneFile(unittest.TestCase):
     def setUp(self) -> None:
-        programs.take("vaultc")
+        take()
         self.client = Client()
         self.client.request("initialize", capabilities={})
         self.addCleanup(self.client.end)
@@ -157,11 +159,20 @@ class OneFile(unittest.TestCase):
     def test_renaming_is_refused_if_the_text_would_be(self) -> None:
         self.assertEqual(len(self.ask("rename", position=place(3, 9), newName="money")["changes"][self.uri]), 6)
         self.assertIn("would be refused", self.ask("rename", position=place(3, 9), newName="while")["message"])
+        # a name that another function, or another variable of the function, has
+        self.assertIn("would be refused", self.ask("rename", position=place(6, 6), newName="unlock")["message"])
+        self.assertIn("would be refused", self.ask("rename", position=place(12, 29), newName="cents")["message"])
 
     def test_completion(self) -> None:
         self.assertEqual([it["label"] for it in self.ask("completion", position=place(17, 7))], ["cents"])
         self.change(range={"start": place(13, 5), "end": place(13, 5)}, text="become a@")
         self.assertEqual([it["label"] for it in self.ask("completion", position=place(13, 14))], ["loose", "shut"])
+
+    def test_completion_has_functions_with_their_clauses(self) -> None:
+        found = {it["label"]: it["detail"] for it in self.ask("completion", position=place(17, 5))}
+        self.assertEqual(found["unlock"], "void unlock(tracked(L) account a) [L@shut->loose]")
+        self.assertEqual(found["a"], "tracked(L) account")
+        self.assertIn("release", found)
 
     def test_layout(self) -> None:
         self.change(text=self.text.replace("    acquire(a);", "  acquire ( a ) ;  // taken"))
@@ -212,7 +223,7 @@ class Modules(unittest.TestCase):
     """Files that are judged beside an interface."""
 
     def setUp(self) -> None:
-        programs.take("vaultc")
+        take()
         folder = tempfile.TemporaryDirectory()
         self.addCleanup(folder.cleanup)
         self.top = Path(folder.name).resolve()
@@ -369,6 +380,28 @@ class Programs(unittest.TestCase):
         text = text.replace("print(y)", "print(1)")
         client.notify("textDocument/didChange", textDocument={"uri": file.as_uri(), "version": 2}, contentChanges=[{"text": text}])
         self.assertEqual(client.errors(), [])
+
+
+class Rest(unittest.TestCase):
+    """A text is judged once it has been at rest."""
+
+    def test_changes_one_after_the_other_are_judged_once(self) -> None:
+        programs.take("vaultc")
+        written = io.BytesIO()
+        server = Server(io.BytesIO(), written, PATIENCE)
+        uri = "untitled:1"
+        server.open({"textDocument": {"uri": uri, "text": "", "version": 1}})
+        for version, text in enumerate(("v", "void", "void main() {\n}\n"), 2):
+            server.change({"textDocument": {"uri": uri, "version": version}, "contentChanges": [{"text": text}]})
+        server.due[uri] = time.monotonic() + PATIENCE
+        server.judge_due()
+        self.assertEqual(written.getvalue(), b"")
+        self.assertGreater(server.wait() or 0, REST)
+        server.due[uri] = time.monotonic()
+        server.judge_due()
+        said = json.loads(written.getvalue().partition(b"\r\n\r\n")[2].decode())
+        self.assertEqual(said["params"], {"uri": uri, "version": 4, "diagnostics": []})
+        self.assertEqual(server.due, {})
 
 
 class Quick(unittest.TestCase):
