@@ -208,7 +208,7 @@ def refusal_table(bench: Bench) -> Table:
     """What it takes to accept a text and to refuse the same with one fault at its end."""
     count = max(bench.size // 4, 2)
     shapes: Dict[str, Callable[[bool], str]] = {
-        f"{keys} keys, {count} choices": lambda is_faulty, keys=keys: texts.choices(keys, count, is_faulty) for keys in (1, 31, 250)
+        f"{keys} key{'s' * (keys > 1)}, {count} choices": lambda is_faulty, keys=keys: texts.choices(keys, count, is_faulty) for keys in (1, 31, 250)
     }
     shapes[f"an entry bound by 31 states, 1 key more, {count} choices"] = lambda is_faulty: texts.bound_choices(31, 1, count, is_faulty)
     shapes[f"an entry bound by 31 states, 250 keys more, {count // 2} choices"] = lambda is_faulty: texts.bound_choices(31, 250, count // 2, is_faulty)
