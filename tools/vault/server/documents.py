@@ -2,6 +2,7 @@
 from __future__ import annotations
 
 import urllib.parse
+from concurrent.futures import ThreadPoolExecutor
 from dataclasses import dataclass, field
 from pathlib import Path
 from typing import Any, Dict, List, Optional
@@ -118,7 +119,11 @@ class Document:
         data = self.data or b"\n"
         if self.interface is not None:
             return modules.judge_texts(asker, self.interface, self.view.source, wishes).pictures
-        return pictures_of(self.view, asker.faults(str(self.path), data), asker, wishes, data)
+        with ThreadPoolExecutor(1) as pool:
+            # the text is read while the program judges it
+            asked = pool.submit(asker.faults, str(self.path), data)
+            view = self.view
+            return pictures_of(view, asked.result(), asker, wishes, data)
 
     def large_errors(self, asker: Asker) -> List[Picture]:
         """The first error of a large text in the program's own words."""
