@@ -6,11 +6,11 @@ import subprocess
 from concurrent.futures import ThreadPoolExecutor
 from dataclasses import dataclass
 from pathlib import Path
-from typing import List, Sequence, Tuple
+from typing import Dict, List, Optional, Sequence, Tuple
 
 from vault import paths, programs
 from vault.bind import certificate
-from vault.bind.certificate import Certificate, FunctionRow
+from vault.bind.certificate import KEPT, NEW, TAKEN, Certificate, FunctionRow
 from vault.bind.library import Library
 from vault.commands import bind
 
@@ -90,7 +90,11 @@ int main(int argc, char **argv)
 
 
 # drivers whose externals answer with states: answers that keep their clauses
-ANSWERS = {"valve": ("0", "1", "1 0", "1 1", "2 2", "0 0", "0 1", "1 7")}
+ANSWERS = {
+    "valve": ("0", "1", "1 0", "1 1", "2 2", "0 0", "0 1", "1 7"),
+    "tcp": ("",),
+    "usb": ("", "", "0", "1", "0 3"),
+}
 
 
 @dataclass(frozen=True)
@@ -169,26 +173,77 @@ def compiled(folder: Path, base: str, number: int, compiler: Sequence[str]) -> P
     return program
 
 
-def random_call(driver: Driver, chance: random.Random, made: int) -> str:
-    """A call: of a function that there is, mostly with arguments that fit."""
-    function = chance.choice(driver.functions)
-    words = [function.name]
-    for _, shape in function.parameters:
-        if shape.kind == "key" and chance.random() < 0.97:
-            words.append(f"#{chance.randint(1, max(made, 1))}")
-        elif shape.kind == "bool":
-            words.append(str(chance.randint(0, 1)))
-        else:
-            words.append(str(chance.choice((0, 1, -1, 7, 100, 9223372036854775807, chance.randint(-50, 50)))))
-    return " ".join(words)
+def random_number(chance: random.Random, is_bool: bool) -> str:
+    return str(chance.randint(0, 1) if is_bool else chance.choice((0, 1, -1, 7, 100, 9223372036854775807, chance.randint(-50, 50))))
+
+
+class Calls:
+    """Makes random calls. It follows what the host holds if each call comes back and makes no object but the one that it gives: for each number the object's type and states."""
+
+    def __init__(self, driver: Driver, chance: random.Random) -> None:
+        self.driver = driver
+        self.heads = driver.heads
+        self.chance = chance
+        self.made = 0
+        self.held: Dict[int, Tuple[int, int]] = {}
+
+    def first(self, function: FunctionRow) -> str:
+        """A call of a function that makes an object."""
+        self.came_back(function, {})
+        return " ".join([function.name, *("1" for _ in function.parameters)])
+
+    def any(self) -> str:
+        """A call of a function that there is, mostly with arguments of the right sort."""
+        function = self.chance.choice(self.driver.functions)
+        words = [function.name]
+        for _, shape in function.parameters:
+            is_object = shape.kind == "key" and self.chance.random() < 0.97
+            words.append(f"#{self.chance.randint(1, max(self.made, 1))}" if is_object else random_number(self.chance, shape.kind == "bool"))
+        return " ".join(words)
+
+    def fitting(self) -> str:
+        """A call that may be permitted."""
+        for function in self.chance.sample(self.driver.functions, len(self.driver.functions)):
+            objects = self.objects_for(function)
+            if objects is not None:
+                self.came_back(function, objects)
+                words = [f"#{objects[it.key]}" if it.kind == "key" else random_number(self.chance, it.kind == "bool") for _, it in function.parameters]
+                return " ".join([function.name, *words])
+        return self.any()
+
+    def objects_for(self, function: FunctionRow) -> Optional[Dict[int, int]]:
+        """For the keys of the parameters numbers of objects that fit; None if there are none."""
+        found: Dict[int, int] = {}
+        for _, shape in function.parameters:
+            if shape.kind != "key" or shape.key in found:
+                continue
+            entry = function.entry(shape.key)
+            states = self.heads.before(function, entry) if entry else -1
+            fit = [it for it, (kind, now) in self.held.items() if kind == shape.type and now & states and it not in found.values()]
+            if not fit:
+                return None
+            found[shape.key] = self.chance.choice(fit)
+        return found
+
+    def came_back(self, function: FunctionRow, objects: Dict[int, int]) -> None:
+        """What the host holds after a call."""
+        for entry in function.clause:
+            number = objects.get(entry.key)
+            if entry.mode == NEW:
+                self.made += 1
+                self.held[self.made] = (function.result.type, self.heads.after(function, entry))
+            elif number is not None and entry.mode == TAKEN:
+                del self.held[number]
+            elif number is not None and entry.mode == KEPT:
+                self.held[number] = (self.held[number][0], self.heads.after(function, entry))
 
 
 def random_list(driver: Driver, chance: random.Random) -> List[str]:
-    """A list of calls; the first makes an object."""
-    maker = chance.choice([it for it in driver.functions if it.result.kind == "key"])
-    first = " ".join([maker.name, *("1" for _ in maker.parameters)])
-    calls = [first, first]
-    return calls + [random_call(driver, chance, len(calls)) for _ in range(chance.randint(1, 12))]
+    """A list of calls of which most may be permitted; the first ones make objects."""
+    calls = Calls(driver, chance)
+    maker = chance.choice([it for it in driver.functions if it.result.kind == "key" and all(one.kind != "key" for _, one in it.parameters)])
+    firsts = [calls.first(maker), calls.first(maker)]
+    return firsts + [calls.fitting() if chance.random() < 0.9 else calls.any() for _ in range(chance.randint(1, 12))]
 
 
 def random_answers(driver: Driver, chance: random.Random) -> List[str]:

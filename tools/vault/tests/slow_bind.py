@@ -11,7 +11,8 @@ from vault import paths
 from vault.tests import drivers_compiled as drivers
 
 DRIVERS = "tools/vault/tests/drivers"
-SOURCES = ("examples/device.v", "examples/tutorial/10_driver.v", f"{DRIVERS}/pump.v", f"{DRIVERS}/switch.v", f"{DRIVERS}/valve.v")
+EXAMPLES = ("examples/device.v", "examples/tutorial/10_driver.v", "examples/drivers/tcp/tcp.v", "examples/drivers/usb/usb.v")
+SOURCES = (*EXAMPLES, f"{DRIVERS}/pump.v", f"{DRIVERS}/switch.v", f"{DRIVERS}/valve.v")
 SANITIZE = ("-g", "-fno-sanitize-recover=all")
 COMPILERS = (
     ("gcc", "-O0"),

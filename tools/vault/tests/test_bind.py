@@ -9,7 +9,7 @@ import subprocess
 import tempfile
 import unittest
 from pathlib import Path
-from typing import List
+from typing import Dict, List
 
 from vault import cli, paths, programs
 from vault.bind import certificate
@@ -143,6 +143,26 @@ class Bindings(unittest.TestCase):
         shutil.copyfile(source, name)
         return drivers.build(name, self.folder, [(compiler, *SANITIZE) for compiler in compilers()])
 
+    def test_why_calls_are_refused(self) -> None:
+        text = self.emit(DRIVERS / "pump.v")
+        self.assertEqual(self.vault("bind", "library", str(text), "--to", str(self.folder)), 0)
+        files = [RUNTIME / name for name in ("vault_rt.c", "numbers.c", "replay.c", "vault_library.c")]
+        files += [self.folder / "pump_lib.c", Path(__file__).parent / "lib" / "refusals.c"]
+        words = ["cc", *drivers.FLAGS, *SANITIZE, "-I", str(self.folder), "-I", str(RUNTIME), *map(str, files), "-o", str(self.folder / "refusals")]
+        subprocess.run(words, check=True)
+        answers = self.folder / "answers"
+        usual = {"VAULT_ANSWERS": str(answers)}
+        endings = {"": ["answers ended"] * 7, "1 2\n": ["answer 1 bad"] * 7, "1\n": ["came back"] * 5 + ["trap 2"] * 2}
+        for answer, last in endings.items():
+            with self.subTest(answer):
+                answers.write_text(answer)
+                self.assertEqual(self.refusals(usual), REFUSED + last)
+        self.assertEqual(self.refusals({**usual, "VAULT_HEAP": "1"}), REFUSED[:3] + ["budget heap"] * (len(REFUSED) + 4))
+
+    def refusals(self, environment: Dict[str, str]) -> List[str]:
+        done = subprocess.run([str(self.folder / "refusals")], env=environment, stdout=subprocess.PIPE, universal_newlines=True, check=True)
+        return [line for line in done.stdout.splitlines() if not line.startswith("@")]
+
     def test_a_library_knows_the_state_that_a_clause_leaves_open(self) -> None:
         pump = self.driver(DRIVERS / "pump.v")
         calls = ["install 1 1", "install 1 1", "is_faster #1 #2", "remove #2", "start #1", "is_faster #1 #1"]
@@ -241,6 +261,20 @@ class Bindings(unittest.TestCase):
                 self.assertEqual(said.returncode == 0, error == "")
                 self.assertIn(f"{error} may be told of an object that is gone" if error else "", said.stderr)
 
+
+REFUSED = [
+    "install: the library hasn't begun",
+    "stop: p must be held@on",
+    "came back",
+    "came back",
+    "is_faster: p and q must be different objects",
+    "stop: p must be held@on",
+    "came back",
+    "remove: p must be held@off",
+    "came back",
+    "remove: p must be held@off",
+    "came back",
+]
 
 # names that are macros or keywords of C++, or that stand for one name of C
 ODD = """\
