@@ -24,7 +24,7 @@ class Reply:
 
 @dataclass(frozen=True)
 class Asker:
-    """The programs that are asked: `vaultc`, and `vaultq` if there is one."""
+    """The programs that are asked: `vaultc`, and `vaultq` if there is one that answers `keys`."""
 
     vaultc: programs.Program
     vaultq: Optional[programs.Program]
@@ -56,11 +56,21 @@ def ask(program: programs.Program, command: str, name: str, text: Optional[bytes
     return ask_words(program, [command, name if text is None else STANDARD_INPUT], text)
 
 
+KEYS = "keys F"
+"""How the usage line of a `vaultq` tells that it answers the question `keys`."""
+
+
 def has_questions() -> bool:
-    """Whether there is a `vaultq` to take. One that the variable VAULTC stands beside isn't compiled, since that is for tests."""
+    """Whether there is a `vaultq` to take. It is compiled only if it answers `keys`, for which the crate `vlt_points` is; and not beside the
+    variable VAULTC, since that is for tests."""
     if os.environ.get("VAULTQ") or programs.find("vaultq"):
         return True
-    return (paths.TOP / "crates" / "vaultq").is_dir() and not os.environ.get("VAULTC")
+    return (paths.TOP / "crates" / "vlt_points").is_dir() and not os.environ.get("VAULTC")
+
+
+def with_keys(program: Optional[programs.Program]) -> Optional[programs.Program]:
+    """The program if it answers `keys`, else None: pictures are made of both questions or of neither."""
+    return program if program and any(KEYS in line for line in program.ask([]).lines) else None
 
 
 def find() -> Asker:
@@ -68,14 +78,14 @@ def find() -> Asker:
     vaultc, vaultq = programs.known("vaultc"), programs.known("vaultq")
     if vaultc is None:
         raise NoProgram("there is no vaultc of these sources")
-    return Asker(vaultc, vaultq)
+    return Asker(vaultc, with_keys(vaultq))
 
 
 def take() -> Asker:
     """The programs that vault takes."""
     names = ["vaultc", "vaultq"] if has_questions() else ["vaultc"]
     found = programs.take_all(names)
-    return Asker(found["vaultc"], found.get("vaultq"))
+    return Asker(found["vaultc"], with_keys(found.get("vaultq")))
 
 
 def key_faults(reply: Reply) -> List[KeyFault]:
