@@ -286,7 +286,7 @@ def c_text_table(bench: Bench) -> Table:
         for what, text in shapes.items():
             name = bench.folder.write("text.c", text)
             spent, length = bench.vaultc("crun", name), bench.folder.size(name)
-            yield [what, f"{length:,}", millions(spent.instructions), seconds(spent), megabytes(spent), f"{spent.memory / length:.0f}"]
+            yield [what, f"{length:,}", millions(spent.instructions), seconds(spent), megabytes(spent), f"{spent.memory / length:.0f}" if spent.memory > own_memory() else "too few to tell"]
 
     return Table("C texts by `crun`", ["Text", "Bytes", "Millions of instructions", "Seconds", "MB at the peak", "Bytes of memory for each of the text"], rows())
 
