@@ -236,8 +236,15 @@ class RuleRepairs(Near):
                 yield from self.objects(name, kind)
         yield f"int {name} = 0;"
         yield f"bool {name} = false;"
-        for struct in self.declarations.all(s.Struct):
-            yield from self.objects(name, s.Type("held", struct.name.text, self.fresh(name.upper())))
+        names = [it.name.text for it in self.declarations.types() if not isinstance(it, s.Variant)]
+        for of_type in names:
+            yield from self.objects(name, s.Type("held", of_type, self.fresh(name.upper())))
+        for of_type in names:
+            # the name is that of a key
+            yield from self.objects(self.fresh(name.lower()), s.Type("held", of_type, name))
+        for variable in reversed(self.scope.variables if self.scope else ()):
+            if variable.type is not None and variable.type.form in ("held", "guarded"):
+                yield f"{variable.type} {name} = {variable.name};"
 
     def types_wanted(self, name: str, one: s.Statement) -> Iterator[s.Type]:
         call = call_of(one)
