@@ -9,7 +9,7 @@ from typing import Dict, Iterator, List, Set, Tuple
 
 from .definitions import Definition, Library, Module, Name, read_imports, words_of
 
-PUBLIC_CALLS = ("vaultc_core::vaultc", "vaultc_core::vaultq")
+PUBLIC_CALLS = ("vaultc_core::vaultc", "vaultq_core::vaultq")
 """The calls that the programs make."""
 
 LAW = re.compile(r"`(\w+(?:::\w+)*::(\w+))`")

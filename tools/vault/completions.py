@@ -1,4 +1,4 @@
-"""Completions of `vault` and `vaultc` for bash, zsh and fish, made of the subcommands and their options."""
+"""Completions of `vault`, `vaultc` and `vaultq` for bash, zsh and fish, made of the subcommands and their options."""
 from __future__ import annotations
 
 from dataclasses import dataclass
@@ -12,6 +12,7 @@ RUN_OPTIONS = ("--answers", "--depth", "--fuel", "--heap", "--input")
 RUNS = ("run", "crun", "host")
 TEXTS_OF_C = ("crun", "verify")
 OF_VAULTC = ("check", "crun", "emit", "explain", "fmt", "host", "link", "load", "module", "run", "verify")
+OF_VAULTQ = ("faults", "paths")
 
 
 @dataclass(frozen=True)
@@ -46,19 +47,19 @@ def bash(found: List[Command]) -> str:
     options = "".join(f'        {it.name}) options="{" ".join(it.options)}" ;;\n' for it in found if it.options)
     of_c = " | ".join(it.name for it in found if it.ending == "c")
     return f"""\
-# Completion of bash for vault and vaultc.
+# Completion of bash for vault, vaultc and vaultq.
 _vault() {{
     local word=${{COMP_WORDS[COMP_CWORD]}} before=${{COMP_WORDS[COMP_CWORD - 1]}} command=${{COMP_WORDS[1]}} options="" ending=v
     COMPREPLY=()
     if [ "$COMP_CWORD" -eq 1 ]; then
         local names="{' '.join(it.name for it in found)} --help --version"
-        case ${{COMP_WORDS[0]}} in *vaultc) names="{' '.join(OF_VAULTC)}" ;; esac
+        case ${{COMP_WORDS[0]}} in *vaultc) names="{' '.join(OF_VAULTC)}" ;; *vaultq) names="{' '.join(OF_VAULTQ)}" ;; esac
         mapfile -t COMPREPLY < <(compgen -W "$names" -- "$word")
         return
     fi
     case $command in
 {options}    esac
-    case ${{COMP_WORDS[0]}}:$command in *vaultc:{' | *vaultc:'.join(RUNS)}) options="{' '.join(RUN_OPTIONS)}" ;; *vaultc:*) options="" ;; esac
+    case ${{COMP_WORDS[0]}}:$command in *vaultc:{' | *vaultc:'.join(RUNS)}) options="{' '.join(RUN_OPTIONS)}" ;; *vaultc:* | *vaultq:*) options="" ;; esac
     case $before in --fuel | --heap | --depth) return ;; esac
     if [[ $word == -* ]]; then
         mapfile -t COMPREPLY < <(compgen -W "$options" -- "$word")
@@ -69,7 +70,7 @@ _vault() {{
     case $command in {of_c}) ending=c ;; esac
     mapfile -t COMPREPLY < <(compgen -f -X "!*.$ending" -- "$word"; compgen -d -- "$word")
 }}
-complete -F _vault vault vaultc bin/vault bin/vaultc
+complete -F _vault vault vaultc vaultq bin/vault bin/vaultc bin/vaultq
 """
 
 
@@ -84,14 +85,16 @@ def zsh(found: List[Command]) -> str:
     options = "".join(f"        {it.name}) options=({' '.join(it.options)}) ;;\n" for it in found if it.options)
     of_c = "|".join(it.name for it in found if it.ending == "c")
     return f"""\
-#compdef vault vaultc
-# Completion of zsh for vault and vaultc, for a folder in $fpath.
+#compdef vault vaultc vaultq
+# Completion of zsh for vault, vaultc and vaultq, for a folder in $fpath.
 _vault() {{
     local -a names options
     names=(
 {names}    )
     if [[ ${{words[1]:t}} == vaultc ]]; then
         names=({' '.join(OF_VAULTC)})
+    elif [[ ${{words[1]:t}} == vaultq ]]; then
+        names=({' '.join(OF_VAULTQ)})
     fi
     if (( CURRENT == 2 )); then
         _describe command names
@@ -114,7 +117,9 @@ _vault "$@"
 
 def fish(found: List[Command]) -> str:
     """The completion for fish."""
-    lines = ["# Completion of fish for vault and vaultc.", "complete -c vault -c vaultc -f"]
+    lines = ["# Completion of fish for vault, vaultc and vaultq.", "complete -c vault -c vaultc -c vaultq -f"]
+    lines += [f"complete -c vaultq -n __fish_use_subcommand -a {name}" for name in OF_VAULTQ]
+    lines.append(f"complete -c vaultq -n '__fish_seen_subcommand_from {' '.join(OF_VAULTQ)}' -a '(__fish_complete_suffix .v)'")
     for it in found:
         programs = "-c vault -c vaultc" if it.name in OF_VAULTC else "-c vault"
         lines.append(f"complete {programs} -n __fish_use_subcommand -a {it.name} -d {quoted(it.help)}")

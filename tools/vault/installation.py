@@ -18,7 +18,7 @@ from .errors import NoProgram, Problem
 PROGRAMS = ("vaultc", "vaultq")
 """The programs that are installed, those that these sources have."""
 
-SHARED = ("VERSION", "README.md", "bin/vault", "bin/vaultc", "tools/vault", "docs", "runtime", "build", "lib", "editors", "examples")
+SHARED = ("VERSION", "README.md", "bin/vault", "bin/vaultc", "bin/vaultq", "tools/vault", "docs", "runtime", "build", "lib", "editors", "examples")
 """The files and folders of the repository that go to PREFIX/share/vault."""
 
 LEFT_OUT = ("tools/vault/tests/",)
@@ -66,10 +66,7 @@ def program_items(kept: store.Kept) -> Iterator[Item]:
     # the loader is the kit's, and another machine need not have it
     note = replace(kept.note, loader=tuple(kept.note.loader))
     yield Item(at.with_name(f"{name}.json"), (json.dumps(asdict(note), indent=2) + "\n").encode())
-    if name == "vaultc":
-        yield Item(PurePosixPath("bin/vaultc"), link="../share/vault/bin/vaultc" if kept.note.loader else "../lib/vault/vaultc")
-    elif not kept.note.loader:
-        yield Item(PurePosixPath("bin") / name, link=f"../lib/vault/{name}")
+    yield Item(PurePosixPath("bin") / name, link=f"../share/vault/bin/{name}" if kept.note.loader else f"../lib/vault/{name}")
 
 
 def shared_items() -> Iterator[Item]:
@@ -90,7 +87,8 @@ def reading_items() -> Iterator[Item]:
         yield Item(PurePosixPath("share/man/man1") / name, data)
     bash = PurePosixPath("share/bash-completion/completions")
     yield Item(bash / "vault", completions.text("bash").encode())
-    yield Item(bash / "vaultc", link="vault")
+    for name in PROGRAMS:
+        yield Item(bash / name, link="vault")
     yield Item(PurePosixPath("share/zsh/site-functions/_vault"), completions.text("zsh").encode())
     yield Item(PurePosixPath("share/fish/vendor_completions.d/vault.fish"), completions.text("fish").encode())
     vim = paths.TOP / "editors" / "vim"

@@ -5,7 +5,7 @@ import re
 import unittest
 from typing import Dict, Iterator, List, Set, Tuple
 
-from vault import completions, crates, tables
+from vault import believed, completions, crates, tables
 from vault.documents import cells, table_rows
 from vault.paths import TOP
 from vault.suite import first_difference
@@ -28,7 +28,7 @@ class Crates(unittest.TestCase):
     def rows(self, page: str) -> List[List[str]]:
         """The rows of a page's table whose first cell is one crate."""
         lines = [cells(line) for line in read(page).split("\n") if re.match(r"\| `\w+` \|", line)]
-        return [row for row in lines if row[0].strip("`") in self.listed or re.match(r"`(vlt|c|cert|vaultc)_", row[0])]
+        return [row for row in lines if row[0].strip("`") in self.listed or re.match(r"`(vlt|c|cert|vaultc|vaultq)_", row[0])]
 
     def test_pages_are_as_they_are_made(self) -> None:
         for name, text in tables.renewed_pages(TOP).items():
@@ -107,14 +107,20 @@ class Promises(unittest.TestCase):
         for page in pages:
             for number, line in enumerate(page.read_text(encoding="utf-8").split("\n"), 1):
                 for span in spans(line):
-                    if re.fullmatch(r"(vlt|c|cert|vaultc)_\w+(::\w+)+", span):
+                    if re.fullmatch(r"(vlt|c|cert|vaultc|vaultq)_\w+(::\w+)+", span):
                         self.assertEqual(list(self.unknown(f"`{span}`")), [], f"{page.relative_to(TOP)}:{number}")
 
-    def test_each_clause_of_the_call_has_a_row(self) -> None:
-        contract = re.search(r"pub fn vaultc<.*?\n\{", read("crates/vaultc_core/src/lib.rt"), re.S)
+    def test_each_clause_of_the_calls_has_a_row(self) -> None:
+        for call in believed.PUBLIC_CALLS:
+            with self.subTest(call):
+                self.assert_rows(*call.split("::"))
+
+    def assert_rows(self, crate: str, name: str) -> None:
+        """The table of a public call has a row for each of its clauses, in their order."""
+        contract = re.search(rf"pub fn {name}<.*?\n{{", read(f"crates/{crate}/src/lib.rt"), re.S)
         assert contract is not None
         clauses = re.findall(r"ensures (\w+)", contract.group())
-        rows = table_rows(read("docs/PROMISES.md"), "The public call: `vaultc_core::vaultc`")
+        rows = table_rows(read("docs/PROMISES.md"), f"The public call: `{crate}::{name}`")
         self.assertEqual([row[1] for row in rows], [f"`{clause}`" for clause in clauses])
 
 
@@ -158,6 +164,18 @@ class Commands(unittest.TestCase):
         rows = [cells(line)[0] for line in read("docs/COMMANDS.md").split("\n") if re.match(r"\| \d", line)]
         self.assertEqual(man, statuses)
         self.assertEqual({status for row in rows for status in re.findall(r"\d+", row)}, statuses)
+
+
+class Questions(unittest.TestCase):
+    """The questions of `vaultq` are the same on all pages."""
+
+    def test_pages_list_those_of_the_usage_line(self) -> None:
+        met = re.search(r'"usage: vaultq (.*)\\n"', read("crates/vaultq_replies/src/replies.rt"))
+        assert met is not None
+        asked = sorted(words.split(" ")[0] for words in met.group(1).split(" | "))
+        self.assertEqual(sorted(completions.OF_VAULTQ), asked)
+        self.assertEqual(sorted(re.findall(r"^\| `vaultq (\w+) [A-Z ]+` \|", read("docs/COMMANDS.md"), re.M)), asked)
+        self.assertEqual(sorted(re.findall(r'^\.BI (\w+) " [A-Z ]+"$', read("docs/vaultq.1").split(".SH OUTPUT")[0], re.M)), asked)
 
 
 class Numbers(unittest.TestCase):

@@ -1,0 +1,5 @@
+pub mod Named
+pub mod Own
+pub mod Single
+pub mod Told
+pub mod Said
