@@ -5,7 +5,7 @@ import os
 from dataclasses import dataclass
 from typing import List, Optional
 
-from . import paths, programs
+from . import crates, programs
 from .errors import NoProgram
 from .held import Table, read_tables
 from .report import KeyFault, Report, read_reports
@@ -61,11 +61,12 @@ KEYS = "keys F"
 
 
 def has_questions() -> bool:
-    """Whether there is a `vaultq` to take. It is compiled only if it answers `keys`, for which the crate `vlt_points` is; and not beside the
-    variable VAULTC, since that is for tests."""
+    """Whether there is a `vaultq` to take. It is compiled only if it answers `keys`, so if it rests on the crate `vlt_points`; and not beside
+    the variable VAULTC, since that is for tests."""
     if os.environ.get("VAULTQ") or programs.find("vaultq"):
         return True
-    return (paths.TOP / "crates" / "vlt_points").is_dir() and not os.environ.get("VAULTC")
+    listed = crates.read()
+    return not os.environ.get("VAULTC") and "vaultq" in listed and "vlt_points" in crates.below(["vaultq"], listed)
 
 
 def with_keys(program: Optional[programs.Program]) -> Optional[programs.Program]:
