@@ -1,0 +1,5 @@
+pub mod Lines
+pub mod Unfit
+pub mod Founds
+pub mod Keeps
+pub mod Writing
