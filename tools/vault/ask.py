@@ -6,7 +6,7 @@ from dataclasses import dataclass
 from typing import List, Optional
 
 from . import crates, programs
-from .errors import NoProgram
+from .errors import NoProgram, Problem
 from .held import Table, read_tables
 from .report import KeyFault, Report, read_reports
 
@@ -58,6 +58,8 @@ def ask(program: programs.Program, command: str, name: str, text: Optional[bytes
 
 KEYS = "keys F"
 """How the usage line of a `vaultq` tells that it answers the question `keys`."""
+USAGE_SECONDS = 2.0
+"""How long a program may take for its usage line."""
 
 
 def has_questions() -> bool:
@@ -70,8 +72,16 @@ def has_questions() -> bool:
 
 
 def with_keys(program: Optional[programs.Program]) -> Optional[programs.Program]:
-    """The program if it answers `keys`, else None: pictures are made of both questions or of neither."""
-    return program if program and any(KEYS in line for line in program.ask([]).lines) else None
+    """The program, but None if its usage line lacks `keys`: pictures are made of both questions or of neither. One that gives no usage line
+    is kept, so that who asks it is told why."""
+    if program is None:
+        return None
+    try:
+        lines = program.ask([], timeout=USAGE_SECONDS).lines
+    except Problem:
+        return program
+    usage = [line for line in lines if line.startswith("usage: ")]
+    return None if usage and KEYS not in usage[0] else program
 
 
 def find() -> Asker:
