@@ -270,6 +270,27 @@ def reading_table(bench: Bench) -> Table:
     return Table("Reading", ["Command", "Instructions a token", "Seconds", "Bytes"], rows())
 
 
+def c_text_table(bench: Bench) -> Table:
+    """What reading a C text takes, in which names stand in an order of their own, or in which there are many."""
+    count = 4 * bench.size
+    shapes: Dict[str, str] = {
+        f"{count} functions, bodies in the order of heads": texts.c_functions(count, False),
+        f"{count} functions, bodies in the reverse order": texts.c_functions(count, True),
+        f"{2 * count} functions, bodies in the reverse order": texts.c_functions(2 * count, True),
+        f"one function of {count} variables": texts.c_variables(count),
+        f"one function of {2 * count} variables": texts.c_variables(2 * count),
+        f"a call with {count} arguments": texts.c_parameters(count),
+    }
+
+    def rows() -> Iterator[Row]:
+        for what, text in shapes.items():
+            name = bench.folder.write("text.c", text)
+            spent, length = bench.vaultc("crun", name), bench.folder.size(name)
+            yield [what, f"{length:,}", millions(spent.instructions), seconds(spent), megabytes(spent), f"{spent.memory / length:.0f}"]
+
+    return Table("C texts by `crun`", ["Text", "Bytes", "Millions of instructions", "Seconds", "MB at the peak", "Bytes of memory for each of the text"], rows())
+
+
 TABLES: Dict[str, Callable[[Bench], Table]] = {
     "commands": command_table,
     "checkers": checker_table,
@@ -277,6 +298,7 @@ TABLES: Dict[str, Callable[[Bench], Table]] = {
     "refusals": refusal_table,
     "ratios": ratio_table,
     "reading": reading_table,
+    "c-texts": c_text_table,
 }
 """The tables by their words."""
 

@@ -70,6 +70,30 @@ def statements(count: int) -> str:
     return "void main() {\nint i = 0;\n" + "i = i + 1;\n" * count + "print(i);\n}\n"
 
 
+C_LINES = '#include "vault_rt.h"\n#define VR_MAIN f0\n'
+
+
+def c_functions(count: int, is_reversed: bool) -> str:
+    """A C text of so many functions, whose bodies stand in the order of their heads or in the reverse one."""
+    names = range(count)
+    bodies = reversed(names) if is_reversed else names
+    heads = "".join(f"void f{number} ( void ) ;\n" for number in names)
+    return C_LINES + heads + "".join(f"void f{number} ( void ) {{\n}}\n" for number in bodies)
+
+
+def c_variables(count: int) -> str:
+    """A C text of one function with so many variables, each of which is set once."""
+    declared = "".join(f"long long n{number} ;\n" for number in range(count))
+    return f"{C_LINES}void f0 ( void ) ;\nvoid f0 ( void ) {{\n{declared}" + "".join(f"n{number} = 1 ;\n" for number in range(count)) + "}\n"
+
+
+def c_parameters(count: int) -> str:
+    """A C text of a function with so many parameters, and of a call of it."""
+    heads = ("void f0 ( void )", f"void f1 ( {' , '.join(f'long long n{number}' for number in range(count))} )")
+    call = f"f1 ( {' , '.join(['1'] * count)} ) ;\n"
+    return C_LINES + "".join(f"{head} ;\n" for head in heads) + f"{heads[0]} {{\n{call}}}\n{heads[1]} {{\n}}\n"
+
+
 def turns(count: int, declared: str, body: str) -> str:
     """A loop of so many turns, each of which does this and counts."""
     return f"{declared}\nvoid main() {{ int i = 0; int s = 1; while (i < {count}) {{ {body} i = i + 1; }} print(s); }}\n"

@@ -2,7 +2,7 @@
 
 usage: vault speed [TABLE ..] [--functions N] [--time] [--folder FOLDER]
 
-TABLE is one of commands, checkers, runs, refusals, ratios and reading; without any, all. The texts are generated. Instructions are
+TABLE is one of commands, checkers, runs, refusals, ratios, reading and c-texts; without any, all. The texts are generated. Instructions are
 counted by callgrind, if valgrind is installed; times are processor time, the least of three runs; memory is that of the peak. A tool
 that isn't installed is left out, with a word. docs/SPEED.md has what was measured, and how to read it."""
 from __future__ import annotations

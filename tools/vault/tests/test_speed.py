@@ -51,6 +51,10 @@ class Texts(WithProgram):
         self.assertEqual([self.status("fmt", text) for text in (speed_texts.functions(2), speed_texts.one_list(3))], [0, 0])
         self.assertEqual(self.status("fmt", speed_texts.functions(1) + " #"), 6)
 
+    def test_c_texts_are_run(self) -> None:
+        ran = (speed_texts.c_functions(3, False), speed_texts.c_functions(3, True), speed_texts.c_variables(3), speed_texts.c_parameters(3))
+        self.assertEqual([self.status("crun", text) for text in ran], [0] * len(ran))
+
     def test_a_function_has_so_many_bytes(self) -> None:
         self.assertEqual(len(speed_texts.functions(2)), 2 * 253)
 
