@@ -1,5 +1,5 @@
 -- Objects that are made, released and moved.
-use Rattle.std.proofs.Common.{◌≡◌, ◌++◌, ◌∷◌, [], ℕ, Bool, true, false, if◌then◌else◌, List, length, Some, Result, Ok, Err, OnOk, IfErr, refl, sym, ap, subst, ◌∙◌}
+use Rattle.std.proofs.Common.{◌≡◌, ◌++◌, ◌∷◌, [], ℕ, Bool, if◌then◌else◌, List, length, Some, Result, Ok, Err, OnOk, IfErr, sym, ap, subst, ◌∙◌}
 use Rattle.vlt_core.specs.Core.{Program}
 use Rattle.vlt_meaning.specs.World as m
 use Rattle.vlt_meaning.specs.World.{is_full}

@@ -1,7 +1,5 @@
-use Rattle.std.proofs.Common.{◌≡◌, Ok, Some, sym, ap, ◌∙◌}
+use Rattle.std.proofs.Common.{sym, ap, ◌∙◌}
 use Rattle.vlt_base.specs.States.{has_state}
-use Rattle.vlt_meaning.specs.Found.{◌>>=◌}
-use Rattle.vlt_meaning.specs.Objects.{in_states}
 use Rattle.vlt_trace_worlds.specs.View.{found_of, named_view, frame_view, objects_view}
 use Rattle.vlt_trace_steps.specs.Cases.{case_key_view}
 use Rattle.vlt_trace_steps.proofs.Cells.{case_found}

@@ -1,4 +1,4 @@
-use Rattle.std.proofs.Common.{◌≡◌, ◌+◌, ◌<◌, ◌≤◌, ℕ, List, ◌∷◌, [], ◌++◌, drop, length, map, sym, ap, append_assoc, ◌∙◌, arith}
+use Rattle.std.proofs.Common.{◌+◌, ◌<◌, ℕ, List, ◌∷◌, [], ◌++◌, drop, length, map, sym, ap, ◌∙◌, arith}
 use Rattle.vlt_meaning.specs.World.{World}
 use Rattle.vlt_meaning.specs.Step.{Step}
 use Rattle.vlt_meaning.specs.Operands.{with_case_packed}

@@ -1,6 +1,5 @@
-use Rattle.std.proofs.Common.{◌≡◌, ◌∷◌, [], sym, ap, ◌∙◌}
+use Rattle.std.proofs.Common.{◌∷◌, [], sym, ap, ◌∙◌}
 use Rattle.vlt_trace_worlds.specs.View.{named_view, frame_view, world_view}
-use Rattle.vlt_trace_worlds.specs.declared.stops.Halt.TheVariants.{Ends}
 use Rattle.vlt_trace_steps.specs.Cases.{case_key_view}
 use Rattle.vlt_trace_steps.proofs.Leading.{err_is, same_hands, stop_ok, stop_hands}
 use Rattle.vlt_trace_steps.proofs.Packing.{pack_one}

@@ -1,8 +1,8 @@
-use Rattle.std.proofs.Common.{◌≡◌, Ok, Some, sym, ap, ◌∙◌}
+use Rattle.std.proofs.Common.{sym, ap, ◌∙◌}
 use Rattle.vlt_base.specs.States.{has_state}
 use Rattle.vlt_meaning.specs.Found.{◌>>=◌}
 use Rattle.vlt_meaning.specs.Objects.{in_states}
-use Rattle.vlt_trace_worlds.specs.View.{found_of, named_view, frame_view, objects_view}
+use Rattle.vlt_trace_worlds.specs.View.{found_of, named_view}
 use Rattle.vlt_trace_steps.proofs.cases.packed_object.Goals as goal
 
 pub returns-in-Ok : goal.returns-in-Ok

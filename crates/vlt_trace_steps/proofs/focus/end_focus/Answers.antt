@@ -1,10 +1,9 @@
-use Rattle.std.proofs.Common.{◌≡◌, sym, ap, ◌∙◌}
+use Rattle.std.proofs.Common.{sym, ap, ◌∙◌}
 use Rattle.vlt_meaning.specs.World as m
 use Rattle.vlt_meaning.specs.Objects.{with_owner}
 use Rattle.vlt_meaning.specs.Step.{goes, with_changed}
 use Rattle.vlt_meaning.specs.Run.{focus_end_step}
 use Rattle.vlt_trace_worlds.specs.View.{named_view, frame_view, world_view}
-use Rattle.vlt_trace_worlds.specs.declared.stops.Halt.TheVariants.{Ends}
 use Rattle.vlt_trace_steps.proofs.Leading.{err_is, same_goes, stop_ok, stop_err}
 use Rattle.vlt_trace_steps.proofs.focus.end_focus.Goals as goal
 

@@ -1,14 +1,13 @@
-use Rattle.std.proofs.Common.{◌≡◌, ℕ, List, Some, map, sym, ap, subst, ◌∙◌}
+use Rattle.std.proofs.Common.{◌≡◌, Some, map, sym, ap, subst, ◌∙◌}
 use Rattle.std.specs.List.{flat_map}
 use Rattle.vlt_core.specs.LookupViews.{reference_view}
 use Rattle.vlt_meaning.specs.World as m
 use Rattle.vlt_meaning.specs.World.{is_loose, objects_in}
-use Rattle.vlt_meaning.specs.Objects.{objects_after_move}
-use Rattle.vlt_meaning.specs.Step.{Step, goes, with_made, with_moved, with_var, with_key}
+use Rattle.vlt_meaning.specs.Step.{goes, with_moved, with_var, with_key}
 use Rattle.vlt_meaning.specs.Run.{new_object, made_in}
 use Rattle.vlt_trace_worlds.specs.View.{value_view, objects_view, frame_view, world_view}
 use Rattle.vlt_trace_worlds.specs.Owners.{MakesObject}
-use Rattle.vlt_trace_worlds.specs.declared.stops.Halt.TheVariants.{Ends, Memory}
+use Rattle.vlt_trace_worlds.specs.declared.stops.Halt.TheVariants.{Memory}
 use Rattle.vlt_trace_steps.proofs.Leading.{err_is, no_memory, same_goes}
 use Rattle.vlt_trace_steps.proofs.Making.{made_ok, made_err, moved_ok, moved_err}
 use Rattle.vlt_trace_steps.proofs.objects.make_from.Goals as goal

@@ -1,14 +1,13 @@
-use Rattle.std.proofs.Common.{◌≡◌, Ok, map, sym, ap, ◌∙◌}
-use Rattle.std.specs.Option.{option_map}
+use Rattle.std.proofs.Common.{◌≡◌, map, sym, ap, ◌∙◌}
 use Rattle.vlt_core.specs.Lookups.{fields_of}
 use Rattle.vlt_core.specs.LookupViews.{reference_view}
-use Rattle.vlt_core.specs.View.{field_of, vars_of}
+use Rattle.vlt_core.specs.View.{vars_of}
 use Rattle.vlt_meaning.specs.World as m
 use Rattle.vlt_meaning.specs.Operands.{owning_cells}
 use Rattle.vlt_meaning.specs.Run.{open_step}
 use Rattle.vlt_trace_worlds.specs.View.{value_view, named_view, frame_view, world_view}
 use Rattle.vlt_trace_worlds.specs.Running.{program_in, func_in, setup_in}
-use Rattle.vlt_trace_worlds.specs.declared.stops.Halt.TheVariants.{Ends, Memory}
+use Rattle.vlt_trace_worlds.specs.declared.stops.Halt.TheVariants.{Memory}
 use Rattle.vlt_trace_steps.proofs.Leading.{err_is, no_memory, same_goes, some_found, stop_ok, stop_err}
 use Rattle.vlt_trace_steps.proofs.objects.open_into.Goals as goal
 

@@ -1,4 +1,4 @@
-use Rattle.std.proofs.Common.{◌≡◌, map, sym, ap, ◌∙◌}
+use Rattle.std.proofs.Common.{◌≡◌, map, ap, ◌∙◌}
 use Rattle.std.specs.List.{flat_map}
 use Rattle.vlt_core.specs.View.{vars_of}
 use Rattle.vlt_meaning.specs.World as m
@@ -9,7 +9,7 @@ use Rattle.vlt_meaning_laws.specs.Machine.Got.{filled_got}
 use Rattle.vlt_meaning_laws.proofs.OfMachine.Gots.{filled_step}
 use Rattle.vlt_trace_worlds.specs.View.{value_view, objects_view, frame_view, world_view}
 use Rattle.vlt_trace_worlds.specs.Running.{program_in, func_in}
-use Rattle.vlt_trace_worlds.specs.declared.stops.Halt.TheVariants.{Ends, Memory}
+use Rattle.vlt_trace_worlds.specs.declared.stops.Halt.TheVariants.{Memory}
 use Rattle.vlt_trace_steps.proofs.Leading.{err_is, no_memory, same_goes, hands_ok, hands_err}
 use Rattle.vlt_trace_steps.proofs.Making.{moved_ok, moved_err, released_hands}
 use Rattle.vlt_trace_steps.proofs.Filling.{filled_goes}

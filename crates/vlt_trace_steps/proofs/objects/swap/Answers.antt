@@ -1,15 +1,7 @@
-use Rattle.std.proofs.Common.{◌≡◌, Ok, map, slice_get, sym, ap, ◌∙◌}
+use Rattle.std.proofs.Common.{◌≡◌, map, slice_get, sym, ap, ◌∙◌}
 use Rattle.std.specs.Option.{option_map, option_copied}
 use Rattle.std.proofs.lemmas.Option.{slice_get-map}
-use Rattle.vlt_core.specs.Lookups.{permitted_in}
-use Rattle.vlt_meaning.specs.World as m
-use Rattle.vlt_meaning.specs.Found.{or_fault}
-use Rattle.vlt_meaning.specs.Values.{object_of}
-use Rattle.vlt_meaning.specs.Step.{Step, with_found}
-use Rattle.vlt_meaning.specs.Run.{swap_step}
 use Rattle.vlt_trace_worlds.specs.View.{value_view, object_view, named_view, frame_view, world_view}
-use Rattle.vlt_trace_worlds.specs.Running.{program_in, func_in}
-use Rattle.vlt_trace_worlds.specs.declared.stops.Halt.TheVariants.{Ends}
 use Rattle.vlt_trace_steps.proofs.Leading.{err_is, same_goes, stop_ok, stop_err, finds_ok, finds_err}
 use Rattle.vlt_trace_steps.proofs.objects.swap.Goals as goal
 

@@ -1,13 +1,13 @@
-use Rattle.std.proofs.Common.{rules, ◌≡◌, ℕ, Bool, true, false, List, Some, None, map, refl, sym, ap, subst, ◌∙◌}
+use Rattle.std.proofs.Common.{rules, ◌≡◌, true, false, Some, None, sym, ap, ◌∙◌}
 use Rattle.std.specs.List.{list_all}
 use Rattle.std.specs.Result.{is_ok}
 use Rattle.vlt_meaning.specs.World as m
 use Rattle.vlt_meaning.specs.World.{is_loose, is_inside, objects_in}
 use Rattle.vlt_meaning.specs.Objects.{with_cell, owned_at}
-use Rattle.vlt_meaning.specs.Step.{Step, goes, where_so, with_moved, with_var, with_changed}
+use Rattle.vlt_meaning.specs.Step.{Step, goes, with_moved, with_var, with_changed}
 use Rattle.vlt_meaning.specs.Run.{swap_step}
 use Rattle.vlt_trace_worlds.specs.View.{value_view, objects_view, frame_view, world_view}
-use Rattle.vlt_trace_worlds.specs.declared.stops.Halt.TheVariants.{Ends, Memory}
+use Rattle.vlt_trace_worlds.specs.declared.stops.Halt.TheVariants.{Memory}
 use Rattle.vlt_trace_steps.proofs.Leading.{err_is, no_memory, same_goes, so, not_so}
 use Rattle.vlt_trace_steps.proofs.Making.{moved_ok, moved_err}
 use Rattle.vlt_trace_steps.proofs.objects.swap_values.Goals as goal

@@ -1,10 +1,5 @@
-use Rattle.std.proofs.Common.{◌≡◌, ◌∷◌, [], ap, ◌∙◌}
 use Rattle.vlt_core.specs.View.{program_of}
-use Rattle.vlt_meaning.specs.World.{is_loose}
-use Rattle.vlt_meaning.specs.Objects.{owned_at}
-use Rattle.vlt_meaning.specs.Step.{with_dropped, with_released}
 use Rattle.vlt_trace_worlds.specs.View.{named_view, objects_view, world_view}
-use Rattle.vlt_trace_worlds.specs.declared.stops.Halt.TheVariants.{Ends}
 use Rattle.vlt_trace_steps.proofs.Leading.{err_is, same_hands, stop_ok, stop_hands}
 use Rattle.vlt_trace_steps.proofs.Dropping.{drop_one}
 use Rattle.vlt_trace_steps.proofs.Making.{released_hands}

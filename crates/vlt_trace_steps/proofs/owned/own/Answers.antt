@@ -1,4 +1,4 @@
-use Rattle.std.proofs.Common.{◌≡◌, sym, ap, ◌∙◌}
+use Rattle.std.proofs.Common.{◌∙◌}
 use Rattle.vlt_core.specs.View.{operand_of}
 use Rattle.vlt_meaning.specs.Step.{fill}
 use Rattle.vlt_meaning_laws.specs.Machine.Got.{operand_got}

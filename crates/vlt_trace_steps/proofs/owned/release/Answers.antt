@@ -1,8 +1,6 @@
-use Rattle.std.proofs.Common.{◌≡◌, sym, ap, ◌∙◌}
 use Rattle.vlt_meaning.specs.Step.{goes}
 use Rattle.vlt_trace_worlds.specs.View.{named_view, objects_view, frame_view, world_view}
 use Rattle.vlt_trace_worlds.specs.Running.{program_in}
-use Rattle.vlt_trace_worlds.specs.declared.stops.Halt.TheVariants.{Ends}
 use Rattle.vlt_trace_steps.proofs.Leading.{err_is, same_goes, stop_ok, stop_err, goes_of_hands}
 use Rattle.vlt_trace_steps.proofs.Making.{released_hands}
 use Rattle.vlt_trace_steps.proofs.owned.release.Goals as goal

@@ -1,7 +1,6 @@
-use Rattle.std.proofs.Common.{◌≡◌, sym, ap, ◌∙◌}
+use Rattle.std.proofs.Common.{sym, ap, ◌∙◌}
 use Rattle.vlt_meaning.specs.Step.{goes}
 use Rattle.vlt_trace_worlds.specs.View.{named_view, frame_view, world_view}
-use Rattle.vlt_trace_worlds.specs.declared.stops.Halt.TheVariants.{Ends}
 use Rattle.vlt_trace_steps.proofs.Leading.{err_is, stop_ok, stop_err}
 use Rattle.vlt_trace_steps.proofs.plain.become_state.Goals as goal
 

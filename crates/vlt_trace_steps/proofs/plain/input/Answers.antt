@@ -1,4 +1,4 @@
-use Rattle.std.proofs.Common.{rules, ◌≡◌, ℤ, Some, sym, ap, ◌∙◌, SFits, w64}
+use Rattle.std.proofs.Common.{rules, Some, sym, ap, ◌∙◌, SFits, w64}
 use Rattle.std.proofs.lemmas.Int.{to_z-of_z}
 use Rattle.vlt_meaning.specs.World as m
 use Rattle.vlt_meaning.specs.Step.{goes, with_var}

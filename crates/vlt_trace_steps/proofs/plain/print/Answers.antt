@@ -1,10 +1,9 @@
-use Rattle.std.proofs.Common.{rules, ◌≡◌, ℤ, sym, ap, ◌∙◌, SFits, w64, to_z, of_z}
+use Rattle.std.proofs.Common.{rules, ℤ, sym, ap, ◌∙◌, SFits, w64, to_z, of_z}
 use Rattle.std.proofs.lemmas.Int.{to_z-of_z}
 use Rattle.vlt_meaning.specs.World.{printed}
 use Rattle.vlt_meaning.specs.Step.{goes, with_event}
 use Rattle.vlt_trace_worlds.specs.View.{frame_view, world_view}
-use Rattle.vlt_trace_worlds.specs.declared.stops.Halt.TheVariants.{Ends}
-use Rattle.vlt_trace_steps.proofs.Leading.{err_is, same_goes, stop_ok, stop_err}
+use Rattle.vlt_trace_steps.proofs.Leading.{err_is, stop_ok, stop_err}
 use Rattle.vlt_trace_steps.proofs.Making.{told_goes}
 use Rattle.vlt_trace_steps.proofs.plain.print.Goals as goal
 

@@ -1,9 +1,8 @@
-use Rattle.std.proofs.Common.{◌≡◌, nat_lt, length, map, Some, sym, ap, ◌∙◌}
+use Rattle.std.proofs.Common.{nat_lt, length, map, Some, sym, ap, ◌∙◌}
 use Rattle.vlt_meaning.specs.World as m
 use Rattle.vlt_meaning.specs.Step.{goes}
 use Rattle.vlt_trace_worlds.specs.View.{value_view, named_view, frame_view, world_view}
 use Rattle.vlt_trace_worlds.specs.Steps.{told_step}
-use Rattle.vlt_trace_worlds.specs.declared.stops.Halt.TheVariants.{Ends}
 use Rattle.vlt_trace_steps.proofs.Leading.{err_is, same_goes, finds_ok, finds_err, stop_ok, stop_err, so, not_so}
 use Rattle.vlt_trace_steps.proofs.Cells.{cell_there, no_cell_there}
 use Rattle.vlt_trace_steps.proofs.plain.put.Goals as goal

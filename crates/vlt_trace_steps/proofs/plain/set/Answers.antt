@@ -1,4 +1,4 @@
-use Rattle.std.proofs.Common.{◌≡◌, Ok, Err, sym, ap, ◌∙◌}
+use Rattle.std.proofs.Common.{sym, ap, ◌∙◌}
 use Rattle.vlt_meaning.specs.Step.{goes}
 use Rattle.vlt_trace_worlds.specs.View.{value_view, frame_view, world_view}
 use Rattle.vlt_trace_worlds.specs.declared.stops.Halt.TheVariants.{Memory}

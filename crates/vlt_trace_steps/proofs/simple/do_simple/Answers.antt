@@ -1,4 +1,4 @@
-use Rattle.std.proofs.Common.{◌≡◌, map, sym, ap, ◌∙◌}
+use Rattle.std.proofs.Common.{map, sym, ap, ◌∙◌}
 use Rattle.vlt_core.specs.Core as core
 use Rattle.vlt_core.specs.View.{form_of, expr_of, operand_of, vars_of}
 use Rattle.vlt_core.proofs.Views.{set_form, input_form, print_form, put_form, new_form, become_form, release_form, drop_form, own_form, unpack_form, build_form, swap_form, open_form, adopt_form}

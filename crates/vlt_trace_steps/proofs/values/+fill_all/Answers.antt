@@ -1,4 +1,4 @@
-use Rattle.std.proofs.Common.{rules, arith, ◌≡◌, ◌∷◌, List, map, ap, subst}
+use Rattle.std.proofs.Common.{rules, arith, ◌≡◌, ◌∷◌, map, ap, subst}
 use Rattle.std.proofs.lemmas.Grind.{common_steps}
 use Rattle.vlt_core.specs.View.{vars_of}
 use Rattle.vlt_meaning.specs.Step.{fill}

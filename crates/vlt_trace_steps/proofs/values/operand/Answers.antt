@@ -1,4 +1,4 @@
-use Rattle.std.proofs.Common.{◌≡◌, sym, ap, subst, ◌∙◌}
+use Rattle.std.proofs.Common.{sym, ap, subst, ◌∙◌}
 use Rattle.vlt_core.specs.View.{operand_of, expr_of}
 use Rattle.vlt_meaning.specs.World as m
 use Rattle.vlt_meaning.specs.Values.{value_of}
@@ -6,7 +6,6 @@ use Rattle.vlt_meaning_laws.specs.Machine.Got.{got, operand_got}
 use Rattle.vlt_trace_worlds.specs.View.{named_view, value_view, frame_view, world_view}
 use Rattle.vlt_trace_worlds.specs.Running.{program_in, func_in}
 use Rattle.vlt_trace_worlds.specs.Steps.{Gives}
-use Rattle.vlt_trace_worlds.specs.declared.stops.Halt.TheVariants.{Ends}
 use Rattle.vlt_trace_steps.proofs.Leading.{err_is, ok_stop}
 use Rattle.vlt_trace_steps.proofs.Taking.{found_given, stop_then, found_then}
 use Rattle.vlt_trace_steps.proofs.values.operand.Goals as goal

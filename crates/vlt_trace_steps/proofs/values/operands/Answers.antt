@@ -1,9 +1,8 @@
-use Rattle.std.proofs.Common.{◌≡◌, ◌+◌, ◌<◌, ◌≤◌, ◌∷◌, [], drop, length, map, sym, ap, subst, ◌∙◌, arith}
+use Rattle.std.proofs.Common.{◌+◌, ◌<◌, drop, length, map, ap, ◌∙◌, arith}
 use Rattle.vlt_core.specs.View.{operand_of}
-use Rattle.vlt_meaning_laws.specs.Machine.Got.{got, then_got, operand_got, operands_got}
+use Rattle.vlt_meaning_laws.specs.Machine.Got.{then_got, operand_got, operands_got}
 use Rattle.vlt_trace_worlds.specs.View.{value_view, frame_view, world_view}
 use Rattle.vlt_trace_worlds.specs.Running.{program_in, func_in}
-use Rattle.vlt_trace_worlds.specs.Steps.{Gives}
 use Rattle.vlt_trace_worlds.specs.declared.stops.Halt.TheVariants.{Memory}
 use Rattle.vlt_trace_steps.proofs.Leading.{err_is}
 use Rattle.vlt_trace_steps.proofs.Loops.{split_at, none_left, map_push}

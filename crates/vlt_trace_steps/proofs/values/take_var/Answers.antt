@@ -1,4 +1,4 @@
-use Rattle.std.proofs.Common.{◌≡◌, sym, ap, ◌∙◌}
+use Rattle.std.proofs.Common.{sym, ap, ◌∙◌}
 use Rattle.vlt_meaning.specs.World as m
 use Rattle.vlt_meaning.specs.Found.{or_fault}
 use Rattle.vlt_meaning_laws.specs.Machine.Got.{got}
