@@ -25,16 +25,17 @@ class Crate:
         return (self.folder / "src" / "main.rt").is_file()
 
 
+def lines(top: Path = TOP) -> Dict[str, str]:
+    """The line of each crate in crates.txt, without what stands behind a `#`, in their order."""
+    listed = (line.partition("#")[0].strip() for line in (top / "crates.txt").read_text(encoding="utf-8").splitlines())
+    return {line.split(":")[0].split()[0]: line for line in listed if line}
+
+
 def read(top: Path = TOP) -> Dict[str, Crate]:
     """Each crate by its name, in the order of crates.txt, where each stands behind those that it uses."""
-    lines = (line.partition("#")[0] for line in (top / "crates.txt").read_text(encoding="utf-8").splitlines())
-    listed = [line.partition(":") for line in lines if ":" in line]
-    names = {head.split()[0] for head, _, _ in listed}
-    found = {}
-    for head, _, rest in listed:
-        name = head.split()[0]
-        found[name] = Crate(name, top / "crates" / name, tuple(it for it in rest.split() if it in names))
-    return found
+    listed = lines(top)
+    uses = {name: line.partition(":")[2].split() for name, line in listed.items()}
+    return {name: Crate(name, top / "crates" / name, tuple(it for it in uses[name] if it in listed)) for name in listed}
 
 
 def programs(top: Path = TOP) -> List[str]:

@@ -85,13 +85,9 @@ def descendants(session: int) -> List[int]:
     return sorted(found - {os.getpid()})
 
 
-def resident(sessions: Sequence[int]) -> Dict[int, List[int]]:
-    """The memory in bytes that each process of these sessions has now."""
-    found: Dict[int, List[int]] = {it: [] for it in sessions}
-    for it in _processes():
-        if it.session in found:
-            found[it.session].append(it.resident)
-    return found
+def rows_of(session: int) -> List[Row]:
+    """The processes of a session as they are now."""
+    return [it for it in _processes() if it.session == session]
 
 
 class Row(NamedTuple):

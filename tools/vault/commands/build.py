@@ -1,8 +1,8 @@
 """Compiles the programs, once for these sources, and keeps them.
 
 Without --proved the proofs are left out: it takes two minutes, and each command that needs a program does it so by itself at its first
-call. Such a program has checks at run time and is slower. With --proved each crate is proved first, which takes hours; what was proved
-stays, so it can be stopped and begun again."""
+call. Such a program has checks at run time and is slower. With --proved each crate is proved first, in an hour or two from nothing; what
+`rt ci` has proved on this machine is kept beside the kit, so it can be stopped and begun again."""
 from __future__ import annotations
 
 import argparse

@@ -7,7 +7,7 @@ import argparse
 import os
 import time
 
-from .. import crates, paths, programs, proving, sources, store
+from .. import crates, paths, programs, sources, store
 from ..cli import Parser
 from ..progress import duration
 
@@ -32,8 +32,6 @@ def run(options: argparse.Namespace) -> int:
         print(f"also kept below {paths.cache()}, for at most {store.MOST} states of the sources:")
     for it in others:
         print(f"  {it.note.name}: {words_on(it)}")
-    if proving.built_libraries():
-        print(f"proved libraries of {proving.built_libraries()} crates, from which 'vault build --proved' goes on: {proving.home()}")
     return 0
 
 

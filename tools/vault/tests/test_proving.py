@@ -1,16 +1,18 @@
-"""`vault build --proved`: order, what is skipped, bounds on memory, failures, and what is kept at the end."""
+"""`vault build --proved`: what is copied and proved, what is kept, bounds on memory and disk, failures, and how far it is."""
 from __future__ import annotations
 
 import io
 import os
 import signal
+import tempfile
 import time
 import unittest
 from pathlib import Path
 from unittest import mock
 
-from vault import crates, lanes, minutes, processes, progress, proving
+from vault import crates, gate_log, minutes, paths, processes, proving
 from vault.errors import NoProgram
+from vault.progress import Progress
 
 from .small import PATIENCE, Small
 
@@ -22,33 +24,53 @@ class Proved(unittest.TestCase):
         self.small = Small()
         self.addCleanup(self.small.close)
 
-    def test_crates_are_proved_in_order_and_the_program_is_taken(self) -> None:
+    def test_program_is_proved_and_taken(self) -> None:
         ran = self.small.run(*BUILD)
         self.assertEqual(ran.returncode, 0, ran.stderr)
         self.assertEqual(self.small.calls("proofs"), ["low", "middle", "vaultc"])
-        self.assertEqual(self.small.calls(), ["lib low", "lib middle", "run vaultc"])
-        self.assertRegex(ran.stderr, r"all is proved and built, after \d+ s; the largest process took 0\.\d GB, for \w+")
+        self.assertRegex("".join(self.small.calls()), r"\Aci proving-\w+\Z")
+        self.assertIn("vault: proving 3 crates; Ctrl-C ends it", ran.stderr)
+        self.assertIn("\nvault: rt: this is a stand-in\n", ran.stderr)
+        self.assertRegex(ran.stderr, r"all is proved and built, after \d+ s; the largest process took 0\.\d GB\n\Z")
         self.assertRegex(self.small.run("vault", "status").stdout, r"\nvaultc: proved; of commit unknown, small-kit logic 1; built \d+ s ago; .*/vaultc\.proved\n")
         self.assertRegex(self.small.run("vaultc", "x").stdout, r"\Avaultc of \w{8}: x\n\Z")
 
     def test_nothing_is_done_twice(self) -> None:
         self.small.run(*BUILD)
         self.small.run(*BUILD)
-        self.assertEqual(len(self.small.calls()), 3)
+        self.assertEqual(len(self.small.calls()), 1)
         self.small.source("middle").write_text("// another\n")
         self.small.run(*BUILD)
         self.assertEqual(self.small.calls("proofs"), ["low", "middle", "vaultc", "middle", "vaultc"])
 
-    def test_crate_that_fails_is_told_and_the_rest_stays(self) -> None:
+    def test_only_what_is_proved_is_copied(self) -> None:
+        (self.small.top / "HANDLES").write_text("Handles allowed: none.\n")
+        low = self.small.top / "crates" / "low"
+        for file in ("proofs/P.antt", "must-fail/wrong.edit", "out/left", "data/f.v", "README.md", "stdin"):
+            (low / file).parent.mkdir(exist_ok=True)
+            (low / file).touch()
+        seen = self.small.base / "seen"
+        tell = f"pathlib.Path({str(seen)!r}).write_text(' '.join(sorted(str(it.relative_to(here)) for it in here.rglob('*') if it.is_file())))"
+        self.small.run(*BUILD, RT_DO=tell)
+        low_files = "crates/low/data/f.v crates/low/proofs/P.antt crates/low/src/lib.rt crates/low/stdin"
+        self.assertEqual(seen.read_text(), f"HANDLES crates.txt {low_files} crates/middle/src/lib.rt crates/vaultc/src/main.rt")
+
+    def test_crate_that_fails_ends_the_run_and_the_rest_stays(self) -> None:
         good = self.small.source("middle").read_text()
         self.small.source("middle").write_text("// wrong\n")
         ran = self.small.run(*BUILD)
         self.assertEqual((ran.returncode, ran.stdout), (70, ""))
-        self.assertIn("vault: middle isn't proved; rt said\nerror: not proved\nThe whole log is ", ran.stderr)
-        self.assertEqual(Path(ran.stderr.split("The whole log is ")[1].strip()).read_text(), "error: not proved\n")
+        said = f"== middle\n{self.small.top}/crates/middle/src: error: not proved\nThe whole log is "
+        self.assertIn(f"vault: middle isn't proved; rt said\n{said}", ran.stderr)
+        self.assertIn("rt: low proved\n", Path(ran.stderr.split("The whole log is ")[1].strip()).read_text())
         self.small.source("middle").write_text(good)
         self.assertEqual(self.small.run(*BUILD).returncode, 0)
         self.assertEqual(self.small.calls("proofs"), ["low", "middle", "middle", "vaultc"])
+
+    def test_run_that_fails_for_another_reason_is_told(self) -> None:
+        ran = self.small.run(*BUILD, RT_DO="print('rt: FAILED: vaultc (run)'); sys.exit(1)")
+        self.assertEqual(ran.returncode, 70)
+        self.assertIn("vault: rt ci failed; rt said\nrt: FAILED: vaultc (run)\nThe whole log is ", ran.stderr)
 
     def test_source_that_is_saved_meanwhile_plays_no_part(self) -> None:
         source, told = self.small.source("low"), self.small.run("vaultc", "x").stdout
@@ -60,16 +82,19 @@ class Proved(unittest.TestCase):
         self.assertIn("vaultc: proved;", self.small.run("vault", "status").stdout)
         self.assertEqual(self.small.run("vaultc", "x").stdout, told)
 
-    def test_interrupt_ends_the_children(self) -> None:
+    def test_interrupt_ends_the_children_and_the_next_call_goes_on(self) -> None:
         mark = self.small.base / "rt"
-        started = self.small.start(*BUILD, RT_DO=f"pathlib.Path({str(mark)!r}).write_text(str(os.getpid())); time.sleep(600)")
-        while not mark.exists() or not mark.read_text():
+        started = self.small.start(*BUILD, RT_DO=f"pathlib.Path({str(mark)!r}).write_text(str(os.getpid()))", RT_HANGS="middle")
+        while self.small.calls("proofs") != ["low"]:
             time.sleep(0.02)
         started.send_signal(signal.SIGINT)
         started.communicate(timeout=PATIENCE)
         self.assertEqual(started.returncode, 130)
         with self.assertRaises(ProcessLookupError):
             os.kill(int(mark.read_text()), 0)
+        self.assertEqual(self.small.kept(), [])
+        self.assertEqual(self.small.run(*BUILD).returncode, 0)
+        self.assertEqual(self.small.calls("proofs"), ["low", "middle", "vaultc"])
 
 
 class Passed(unittest.TestCase):
@@ -104,73 +129,74 @@ class Memory(unittest.TestCase):
     def test_too_little_memory_is_refused_with_what_is_needed(self) -> None:
         with mock.patch.object(processes, "available_memory", return_value=1_200_000_000):
             with self.assertRaises(NoProgram) as caught:
-                proving.bounds()
+                proving.require_room()
         self.assertEqual(caught.exception.status, 70)
         self.assertEqual(caught.exception.message, "to prove the crates 3 GB of memory have to be free, and 1.2 GB are")
 
     def test_too_little_disk_is_refused_with_what_is_needed(self) -> None:
-        full = mock.Mock(free=1_000_000_000)
-        run = proving.Proving(self.small.top, self.small.base, ["vaultc"], proving.Bounds(lanes=1), progress.Progress(io.StringIO()))
-        with mock.patch.object(proving.shutil, "disk_usage", return_value=full):
-            with self.assertRaisesRegex(NoProgram, r"to prove the crates 3 GB of disk have to be free below /.*, and 1 GB are"):
-                run.run()
-
-    def test_as_many_at_a_time_as_memory_allows(self) -> None:
-        with mock.patch.object(processes, "processors", return_value=16):
-            for free, lane_count in ((3, 1), (10, 3), (100, 16)):
-                with mock.patch.object(processes, "available_memory", return_value=free * proving.GIGABYTE):
-                    self.assertEqual(proving.bounds().lanes, lane_count)
+        with mock.patch.object(proving.shutil, "disk_usage", return_value=mock.Mock(free=1_000_000_000)):
+            with self.assertRaisesRegex(NoProgram, r"to prove the crates \d+ GB of disk have to be free in /.*, and 1 GB are"):
+                proving.require_room()
 
     def test_process_beyond_the_bound_ends_the_run(self) -> None:
-        bounds = proving.Bounds(lanes=1, each=0, most=1)
-        home = self.small.base / "home"
-        run = proving.Proving(self.small.top, home, ["vaultc"], bounds, progress.Progress(io.StringIO()))
-        with mock.patch.dict(os.environ, self.small.environment()):
-            with self.assertRaisesRegex(NoProgram, r"low: a process took 0\.0 GB, and may take 0; the log is .*low\.log"):
-                run.run()
+        environment = self.small.environment(RT_HANGS="middle")
+        (self.small.cache / "vault").mkdir(parents=True)
+        with mock.patch.dict(os.environ, environment), mock.patch.object(paths, "TOP", self.small.top):
+            run = proving.Run(self.small.top, crates.read(self.small.top), Progress(io.StringIO()), most=1)
+            with self.assertRaisesRegex(NoProgram, r"the largest process took 0\.0 GB, and one may take 0 GB; the log is /.*/proving\.log"):
+                run.wait()
+        self.assertTrue(run.session.has_ended())
 
-    def test_largest_process_of_a_session_is_seen(self) -> None:
-        words = ["sh", "-c", "python3 -c 'import time; held = b\"x\" * 60_000_000; time.sleep(600)'; true"]
+    def test_largest_process_of_a_run_is_seen_with_its_crate(self) -> None:
+        words = ["sh", "-c", "python3 -c 'import time; held = b\"x\" * 60_000_000; time.sleep(600)' --crate-name low; true"]
         session = processes.Session(words, self.small.base, self.small.base / "log")
         self.addCleanup(session.stop)
-        until = time.monotonic() + 600
+        until = time.monotonic() + PATIENCE
         while time.monotonic() < until:
-            sizes = processes.resident([session.number])[session.number]
-            if sizes and max(sizes) > 60_000_000:
+            large = [row.number for row in processes.rows_of(session.number) if row.resident > 60_000_000]
+            if large:
+                self.assertEqual([proving.crate_of(number) for number in large], ["low"])
                 return
             time.sleep(0.05)
         self.fail("no process of more than 60 MB was seen")
 
 
-class Lanes(unittest.TestCase):
-    def setUp(self) -> None:
-        self.small = Small()
-        self.addCleanup(self.small.close)
+class Log(unittest.TestCase):
+    """What `rt ci` says, in its own words."""
 
-    def test_lane_follows_the_repository(self) -> None:
-        home, top = self.small.base / "home", self.small.top
-        first, second = lanes.prepare(top, home, 2)
-        (second.folder("low") / "out").mkdir()
-        (top / "crates" / "low" / "specs").mkdir()
-        (top / "crates" / "low" / "specs" / "A.antt").write_text("a")
-        self.small.source("middle").unlink()
-        lanes.prepare(top, home, 2)
-        for lane in (first, second):
-            self.assertEqual((lane.folder("low") / "specs" / "A.antt").read_text(), "a")
-            self.assertFalse((lane.folder("middle") / "src" / "lib.rt").exists())
-        self.assertTrue((second.folder("low") / "out").is_dir())
+    SAID = """\
+== vlt_ops
+logic=proved functions=7 sum=dac8208d650f15bf
+rt: vlt_ops proved
+rt: vlt_ops: trying its must-fail edits (1)
+== vlt_io: its tests
+rt: vlt_io: its tests are proved
+rt: vlt_base is kept: an earlier run on this machine proved the same files over the same libraries
+rt: note: the disk fell below 5,000 MB during this run
+== vlt_lexer
+src/lib.rt:3:1: error: no proof
+rt: vlt_lexer NOT PROVED
+rt: vlt_syntax NOT PROVED: its library vlt_lexer failed
+"""
 
-    def test_library_is_linked_and_replaced(self) -> None:
-        one, other = self.small.base / "one", self.small.base / "other"
-        one.mkdir()
-        (one / "stamp").write_text("1")
-        lanes.link_library(one, other)
-        self.assertTrue(os.path.samefile(one / "stamp", other / "stamp"))
-        (one / "stamp").unlink()
-        (one / "stamp").write_text("2")
-        self.assertEqual((other / "stamp").read_text(), "1")
-        lanes.link_library(one, other)
-        self.assertEqual((other / "stamp").read_text(), "2")
+    def read(self, said: str) -> gate_log.Log:
+        with tempfile.NamedTemporaryFile("w", suffix=".log") as file:
+            log = gate_log.Log(Path(file.name))
+            for half in (said[:100], said[100:]):
+                file.write(half)
+                file.flush()
+                log.read_on()
+        return log
+
+    def test_proved_kept_and_failed_crates_are_told_apart(self) -> None:
+        log = self.read(self.SAID)
+        self.assertEqual((log.done, log.proved), (["vlt_ops", "vlt_base"], ["vlt_ops"]))
+        self.assertEqual((log.failed, log.why), ("vlt_lexer", "== vlt_lexer\nsrc/lib.rt:3:1: error: no proof"))
+        self.assertEqual(log.notes, ["the disk fell below 5,000 MB during this run"])
+
+    def test_tests_that_are_not_proved_fail_the_crate(self) -> None:
+        log = self.read("== vlt_io: its tests\nerror\nrt: vlt_io: its tests are NOT PROVED\n")
+        self.assertEqual((log.failed, log.why), ("vlt_io", "== vlt_io: its tests\nerror"))
 
 
 class Minutes(unittest.TestCase):
@@ -182,8 +208,6 @@ class Minutes(unittest.TestCase):
         self.assertEqual(estimate.left(["a", "b", "c", "d"], 4), 5.0)
 
     def test_table_of_the_gate_is_read(self) -> None:
-        from vault import paths
-
         told = minutes.read(paths.TOP)
         self.assertEqual(set(told) - set(crates.read()), set())
         self.assertGreater(sum(told.values()), 100)
