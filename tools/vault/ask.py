@@ -2,12 +2,12 @@
 from __future__ import annotations
 
 import os
-from dataclasses import dataclass
 from typing import List, Optional
 
 from . import crates, programs
 from .errors import NoProgram, Problem
 from .held import Table, read_tables
+from .records import dataclass
 from .report import KeyFault, Report, read_reports
 
 STANDARD_INPUT = "/dev/stdin"
@@ -56,6 +56,7 @@ def ask(program: programs.Program, command: str, name: str, text: Optional[bytes
     return ask_words(program, [command, name if text is None else STANDARD_INPUT], text)
 
 
+NAMES = ["vaultc", "vaultq"]
 KEYS = "keys F"
 """How the usage line of a `vaultq` tells that it answers the question `keys`."""
 USAGE_SECONDS = 2.0
@@ -63,10 +64,8 @@ USAGE_SECONDS = 2.0
 
 
 def has_questions() -> bool:
-    """Whether there is a `vaultq` to take. It is compiled only if it answers `keys`, so if it rests on the crate `vlt_points`; and not beside
+    """Whether a `vaultq` that isn't there is compiled: only if it answers `keys`, so if it rests on the crate `vlt_points`; and not beside
     the variable VAULTC, since that is for tests."""
-    if os.environ.get("VAULTQ") or programs.find("vaultq"):
-        return True
     listed = crates.read()
     return not os.environ.get("VAULTC") and "vaultq" in listed and "vlt_points" in crates.below(["vaultq"], listed)
 
@@ -86,16 +85,17 @@ def with_keys(program: Optional[programs.Program]) -> Optional[programs.Program]
 
 def find() -> Asker:
     """The programs that are there; NoProgram if there is no `vaultc`."""
-    vaultc, vaultq = programs.known("vaultc"), programs.known("vaultq")
-    if vaultc is None:
+    found = programs.known(NAMES)
+    if "vaultc" not in found:
         raise NoProgram("there is no vaultc of these sources")
-    return Asker(vaultc, with_keys(vaultq))
+    return Asker(found["vaultc"], with_keys(found.get("vaultq")))
 
 
 def take() -> Asker:
     """The programs that vault takes."""
-    names = ["vaultc", "vaultq"] if has_questions() else ["vaultc"]
-    found = programs.take_all(names)
+    found = programs.known(NAMES)
+    wanted = NAMES if "vaultq" not in found and has_questions() else NAMES[:1]
+    found.update(programs.take_all([name for name in wanted if name not in found]))
     return Asker(found["vaultc"], with_keys(found.get("vaultq")))
 
 

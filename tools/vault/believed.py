@@ -3,11 +3,11 @@
 from __future__ import annotations
 
 import re
-from dataclasses import dataclass, field
 from pathlib import Path
 from typing import Dict, Iterator, List, Set, Tuple
 
 from .definitions import Definition, Library, Module, Name, read_imports, words_of
+from .records import dataclass, field
 
 PUBLIC_CALLS = ("vaultc_core::vaultc", "vaultq_core::vaultq")
 """The calls that the programs make."""

@@ -58,6 +58,12 @@ def module_of(name: str) -> ModuleType:
     return importlib.import_module(f"{__package__}.commands.{name.replace('-', '_')}")
 
 
+def line_of(name: str) -> str:
+    """The first line of a subcommand's docstring, with which its file begins; to import all of them would take long."""
+    with open(paths.COMMANDS / f"{name.replace('-', '_')}.py", encoding="utf-8") as file:
+        return file.readline().strip().strip('"')
+
+
 def parser_of(name: str, module: ModuleType) -> Parser:
     """The parser of a subcommand."""
     raw = argparse.RawDescriptionHelpFormatter
@@ -73,9 +79,7 @@ def help_text() -> str:
     lines = [INTRODUCTION]
     for title, group in (("Programs in Vault:", ON_PROGRAMS), ("Around them:", [name for name in names if name not in ON_PROGRAMS])):
         lines.append(title)
-        for name in (it for it in group if it in names):
-            doc = module_of(name).__doc__ or ""
-            lines.append(f"  {name:{width}}  {doc.partition(chr(10))[0]}")
+        lines += [f"  {name:{width}}  {line_of(name)}" for name in group if name in names]
     return "\n".join(lines) + "\n"
 
 

@@ -1,10 +1,10 @@
 """Completions of `vault`, `vaultc` and `vaultq` for bash, zsh and fish, made of the subcommands and their options."""
 from __future__ import annotations
 
-from dataclasses import dataclass
 from typing import Callable, Dict, List, Tuple
 
 from . import cli
+from .records import dataclass
 
 RUN_OPTIONS = ("--answers", "--depth", "--fuel", "--heap", "--input")
 """The options of a run, of commands whose words go to vaultc as they are."""

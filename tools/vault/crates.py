@@ -1,11 +1,11 @@
 """The crates of the repository, as crates.txt lists them."""
 from __future__ import annotations
 
-from dataclasses import dataclass
 from pathlib import Path
 from typing import Dict, List, Tuple
 
 from .paths import TOP
+from .records import dataclass
 
 # the program of the transcripts, which users don't call
 TRANSCRIPTS = "vaultc_tests"

@@ -1,11 +1,10 @@
 """What a text declares, by name: types with their states, functions, and what each function does to an object of a type."""
 from __future__ import annotations
 
-import difflib
-from dataclasses import dataclass, field, replace
 from typing import Dict, Iterable, List, Optional, Tuple, Type as Kind, TypeVar
 
 from . import syntax as s
+from .records import dataclass, field, replace
 
 D = TypeVar("D", bound=s.Declaration)
 
@@ -148,6 +147,8 @@ def nearest(name: str, names: Iterable[str], likeness: float = 0.6) -> Optional[
             return one
     if len(name) < 2:
         return None
+    import difflib
+
     found = difflib.get_close_matches(name, known, 1, likeness)
     return found[0] if found else None
 

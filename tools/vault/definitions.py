@@ -3,9 +3,10 @@
 from __future__ import annotations
 
 import re
-from dataclasses import dataclass, field
 from pathlib import Path
 from typing import Dict, Iterator, List, NamedTuple, Optional, Tuple
+
+from .records import dataclass, field
 
 USE = re.compile(r"^\s*(?:pub )?(?:ghost )?use Rattle\.(\w+)\.([\w.]+?)(?:\.\{(.*)\}| as (\w+));?\s*$")
 HEAD = re.compile(r"^ *(?:unfoldable |abbrev |pub )*(?:(data|record) (\S+)|(\S+) :(?: |$))")

@@ -3,12 +3,12 @@
 from __future__ import annotations
 
 import re
-from dataclasses import dataclass
 from functools import partial
 from pathlib import Path
 from typing import List
 
 from .programs import Program
+from .records import dataclass
 from .suite import Part, first_difference
 
 UNFINISHED = "unfinished.v"

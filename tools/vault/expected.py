@@ -4,13 +4,13 @@ The program is asked: the declaration up to the place, and after it one token of
 parser of this package says which kinds to ask first, since most are refused."""
 from __future__ import annotations
 
-from concurrent.futures import ThreadPoolExecutor
-from dataclasses import dataclass
 from typing import Callable, List, Optional, Sequence, Set, Tuple
 
 from .parser import NotGrammar, Parser
 from .picture import View
+from .records import dataclass
 from .report import Report, TextFault
+from .side_by_side import mapped
 from .tokens import KEYWORDS, SIGNS, Token, tokens
 
 # one token of each kind: how it is called, and how it is written
@@ -132,8 +132,7 @@ def expected(view: View, place: Place, ask: Ask, jobs: int, only_likely: bool = 
         is_refused = isinstance(first, TextFault) and first.place is not None
         return not (is_refused and (first.place.line, first.place.column) == (line, column))
 
-    with ThreadPoolExecutor(jobs) as pool:
-        taken = list(pool.map(takes, kinds))
+    taken = mapped(takes, kinds, jobs)
     found = [name for (name, _), is_it in zip(kinds, taken) if is_it]
     return found or (expected(view, place, ask, jobs, False) if only_likely else [])
 

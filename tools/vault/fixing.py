@@ -1,7 +1,6 @@
 """Carries out cures: of each error of a file the first change that was tried, one after the other, each once it is agreed to."""
 from __future__ import annotations
 
-from dataclasses import dataclass, field
 from pathlib import Path
 from typing import Callable, Iterator, List, Optional, Set, Tuple
 
@@ -11,6 +10,7 @@ from .errors import Problem
 from .files import replace_file
 from .judge import Judged, Wishes, judge_text
 from .picture import Cure, Picture
+from .records import dataclass, field
 from .source import Source
 
 # whether a change of a file is wanted

@@ -6,7 +6,6 @@ from __future__ import annotations
 
 import os
 import subprocess
-from dataclasses import asdict, dataclass, replace
 from pathlib import Path, PurePosixPath
 from typing import Iterator, List, Optional, Sequence
 
@@ -14,6 +13,7 @@ import json
 
 from . import completions, manual, paths, programs, sources, store
 from .errors import NoProgram, Problem
+from .records import dataclass, replace
 
 PROGRAMS = ("vaultc", "vaultq")
 """The programs that are installed, those that these sources have."""
@@ -65,7 +65,7 @@ def program_items(kept: store.Kept) -> Iterator[Item]:
     yield Item(at, kept.path.read_bytes(), RUNNABLE)
     # the loader is the kit's, and another machine need not have it
     note = replace(kept.note, loader=tuple(kept.note.loader))
-    yield Item(at.with_name(f"{name}.json"), (json.dumps(asdict(note), indent=2) + "\n").encode())
+    yield Item(at.with_name(f"{name}.json"), (json.dumps(vars(note), indent=2) + "\n").encode())
     yield Item(PurePosixPath("bin") / name, link=f"../share/vault/bin/{name}" if kept.note.loader else f"../lib/vault/{name}")
 
 

@@ -2,8 +2,6 @@
 from __future__ import annotations
 
 import os
-from concurrent.futures import ThreadPoolExecutor
-from dataclasses import dataclass, replace
 from typing import Callable, Iterator, List, Optional, Sequence, Tuple
 
 from .ask import Asker, Reply
@@ -11,11 +9,9 @@ from .held import Table
 from .key_cures import cures
 from .key_faults import KeyStory
 from .key_words import key_picture
-from .kinds import kind_picture
-from .lint import lint
 from .picture import Picture, View, accepted
 from .probes import Probes
-from .repairs import repairs
+from .records import dataclass, replace
 from .report import Accepted, KeyFault, Limit, Report, RuleFault, TextFault
 from .since import Knowledge
 from .source import Source, is_regular
@@ -92,6 +88,8 @@ def picture_of(
 def other_picture_of(view: View, report: Report, status: int, asker: Optional[Asker]) -> Picture:
     """The picture of a report that isn't on keys, with changes that weren't tried."""
     if isinstance(report, RuleFault):
+        from .kinds import kind_picture
+
         return kind_picture(view, report)
     if isinstance(report, TextFault):
         if asker is None or report.what not in ("token", "end"):
@@ -113,8 +111,12 @@ def pictures_of(view: View, reply: Reply, asker: Asker, wishes: Wishes, text: Op
     trial = Trial(view, reply.reports, lambda changed: asker.faults(view.source.name, changed), jobs()) if wishes.cures else None
     found = [picture_of(view, report, reply.status, tables, asker, trial) for report in reports]
     if wishes.repairs and trial:
+        from .repairs import repairs
+
         found = [replace(one, repairs=repairs(trial, report, one)) for one, report in zip(found, reports)]
     if wishes.lint:
+        from .lint import lint
+
         found += lint(view, tables)
     return found or [other_picture(view, Report(""), reply.status)]
 
@@ -139,5 +141,10 @@ def judge_text(source: Source, asker: Asker, wishes: Wishes) -> Judged:
 
 def judge_all(names: Sequence[str], one: Callable[[str], Judged], jobs: int) -> Iterator[Tuple[int, Judged]]:
     """Judges files, as many at a time as `jobs` says; they come in their order, each with its number from 1."""
+    if len(names) == 1:
+        yield 1, one(names[0])
+        return
+    from concurrent.futures import ThreadPoolExecutor
+
     with ThreadPoolExecutor(max(jobs, 1)) as pool:
         yield from enumerate(pool.map(one, names), 1)

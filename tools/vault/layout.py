@@ -6,10 +6,10 @@ from __future__ import annotations
 
 import re
 from bisect import bisect_right
-from dataclasses import dataclass, field, replace
 from typing import Dict, Iterator, List, Tuple
 
 from .programs import Answer, Program
+from .records import dataclass, field, replace
 from .tokens import Token, scan
 
 LINE_END = re.compile(r"[ \t\r]*(\n|\Z)")

@@ -5,10 +5,10 @@ from __future__ import annotations
 import re
 import tempfile
 from contextlib import contextmanager
-from dataclasses import dataclass
 from pathlib import Path
 from typing import Dict, Iterator, List
 
+from .records import dataclass
 from .source import Source
 
 # of a file of calls; an empty line of a file of answers is an answer without numbers

@@ -8,11 +8,11 @@ import resource
 import shutil
 import subprocess
 import tempfile
-from dataclasses import dataclass
 from pathlib import Path
 from typing import List, Optional, Sequence
 
 from .errors import Problem
+from .records import dataclass
 
 BEST_OF = 3
 """A time is the least of so many runs."""

@@ -3,7 +3,6 @@ files."""
 from __future__ import annotations
 
 import tempfile
-from dataclasses import dataclass, replace
 from pathlib import Path
 from typing import Dict, List, Optional, Sequence, Tuple
 
@@ -13,6 +12,7 @@ from .held import Table
 from .judge import Judged, Wishes, accepted_words, picture_of, pictures_of
 from .parser import parse
 from .picture import Cure, Edit, Label, Picture, View, Way
+from .records import dataclass, replace
 from .report import Accepted, Clash, KeyFault, Report, RuleFault, read_reports
 from .rules import all_rules
 from .source import Source

@@ -3,9 +3,8 @@ from __future__ import annotations
 
 import argparse
 import sys
-from typing import Callable, Dict, Iterable, List, Sequence, Tuple
+from typing import Iterable, List, Sequence, Tuple
 
-from .forms import gcc, json_form, page, sarif, text
 from .judge import Judged, counted
 from .picture import Picture
 
@@ -50,6 +49,8 @@ def progress(judged: Iterable[Tuple[int, Judged]], total: int) -> List[Judged]:
 
 
 def write_text(judged: Sequence[Judged], color: str) -> str:
+    from .forms import text
+
     style = text.style_of(color)
     out = text.write(pictures_of(judged), style)
     return out + (f"\n{summary(judged)}\n" if len(judged) > 1 else "")
@@ -59,24 +60,29 @@ def pictures_of(judged: Sequence[Judged]) -> List[Picture]:
     return [picture for one in judged for picture in one.pictures]
 
 
-FORMS: Dict[str, Callable[[Sequence[Judged], str], str]] = {
-    "text": write_text,
-    "gcc": lambda judged, color: gcc.write(pictures_of(judged)),
-    "sarif": lambda judged, color: sarif.write(judged),
-    "json": lambda judged, color: json_form.write(judged),
-    "html": lambda judged, color: page.write(pictures_of(judged)),
-}
+def written(judged: Sequence[Judged], form: str, color: str) -> str:
+    """What was judged, in this form."""
+    if form == "text":
+        return write_text(judged, color)
+    # each form has a module of its own, and a call needs one of them
+    from .forms import gcc, json_form, page, sarif
+
+    if form == "gcc":
+        return gcc.write(pictures_of(judged))
+    if form == "html":
+        return page.write(pictures_of(judged))
+    return (sarif if form == "sarif" else json_form).write(judged)
 
 
 def write_refusal(judged: Sequence[Judged], options: argparse.Namespace) -> int:
     """Writes errors of a command whose standard output is for something else: to standard error, but for the forms that are read by
     other programs."""
     stream = sys.stderr if options.format in ("text", "gcc") else sys.stdout
-    stream.write(FORMS[options.format](judged, options.color))
+    stream.write(written(judged, options.format, options.color))
     return max(one.status for one in judged)
 
 
 def write(judged: Sequence[Judged], options: argparse.Namespace) -> int:
     """Writes what was judged in the form that is asked for. The status is the greatest."""
-    sys.stdout.write(FORMS[options.format](judged, options.color))
+    sys.stdout.write(written(judged, options.format, options.color))
     return max((one.status for one in judged), default=0)

@@ -8,13 +8,13 @@ import hashlib
 import io
 import os
 import tarfile
-from dataclasses import replace
 from pathlib import Path, PurePosixPath
 from typing import Dict, Iterable, List, Set
 
 from . import sources
 from .errors import Problem
 from .installation import Item
+from .records import replace
 
 ARCHITECTURE, PLATFORM = "amd64", "linux-x86_64"
 

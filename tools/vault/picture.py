@@ -1,11 +1,11 @@
 """What a person is shown of an error: the words, the places, the steps that lead there, and the cures."""
 from __future__ import annotations
 
-from dataclasses import dataclass, field
 from typing import Iterator, Optional, Tuple
 
 from .declarations import Declarations
 from .parser import parse
+from .records import dataclass, field
 from .report import Report
 from .source import Place, Source
 from .syntax import Program, Span

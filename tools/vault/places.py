@@ -3,13 +3,13 @@
 from __future__ import annotations
 
 import re
-from dataclasses import dataclass, field
 from enum import Enum
 from pathlib import Path
 from typing import Dict, Iterator, List, NamedTuple, Optional, Pattern, Tuple
 
 from .documents import cells
 from .errors import Problem
+from .records import dataclass, field
 
 FORM = re.compile(r"^    ([A-Z]\w*)(?: \{|\(|,)", re.M)
 ASIDE = re.compile(r"\s*(//|--|(pub )?(unfoldable )?(ghost )?use |infix)")

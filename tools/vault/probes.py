@@ -10,6 +10,7 @@ from .held import ABSENT, Atoms
 from .key_faults import KeyStory
 from .report import KeyFault, Status
 from .scope import scope_at
+from .side_by_side import mapped
 
 # what the program says of a text
 Check = Callable[[bytes], Reply]
@@ -55,8 +56,7 @@ class Probes:
             is_empty = self.faulty(offset, f"{kind} one", "", variable.name.text)
             return ABSENT if is_empty is not None and is_empty.found.how == "absent" else frozenset(["full"])
         parameter = f"tracked(Z) {kind.name} one"
-        held = self.faulty(offset, parameter, "[+Z]", variable.name.text)
-        gone = self.faulty(offset, parameter, "[Z]", variable.name.text)
+        held, gone = mapped(lambda clause: self.faulty(offset, parameter, clause, variable.name.text), ["[+Z]", "[Z]"], jobs=2)
         atoms = status_atoms(held.found) if held else frozenset()
         return atoms | (ABSENT if gone is not None and gone.found.how == "absent" else frozenset()) or ABSENT
 

@@ -5,12 +5,12 @@ import os
 import shutil
 import signal
 import subprocess
-from dataclasses import dataclass
 from pathlib import Path
 from typing import Dict, List, NoReturn, Optional, Sequence, Tuple, Union
 
 from . import paths, sources, store
 from .errors import NoProgram, Problem
+from .records import dataclass
 
 
 @dataclass(frozen=True)
@@ -75,19 +75,22 @@ def take(name: str = "vaultc") -> Program:
 
 def take_all(names: Sequence[str]) -> Dict[str, Program]:
     """The programs of these names. Those that have to be compiled are compiled side by side."""
-    found = {name: _told(name) or find(name) for name in names}
-    if None in found.values():
+    found = known(names)
+    missing = [name for name in names if name not in found]
+    if missing:
         from . import compilation
         from .progress import Progress
 
-        found.update(compilation.keep([name for name in names if found[name] is None], Progress()))
-    return {name: it if isinstance(it, Program) else _of_kept(it) for name, it in found.items() if it}
+        found.update({name: _of_kept(kept) for name, kept in compilation.keep(missing, Progress()).items() if name in missing})
+    return found
 
 
-def known(name: str) -> Optional[Program]:
-    """The program of this name if it need not be compiled; else None."""
-    found = _told(name) or find(name)
-    return found if isinstance(found, Program) or found is None else _of_kept(found)
+def known(names: Sequence[str]) -> Dict[str, Program]:
+    """Those programs of these names that need not be compiled."""
+    told = {name: _told(name) for name in names}
+    kept = find_all([name for name, it in told.items() if it is None])
+    found = {name: it or (_of_kept(kept[name]) if name in kept else None) for name, it in told.items()}
+    return {name: it for name, it in found.items() if it}
 
 
 def _of_kept(kept: store.Kept) -> Program:
@@ -97,9 +100,19 @@ def _of_kept(kept: store.Kept) -> Program:
 
 def find(name: str) -> Optional[store.Kept]:
     """The installed program of this name, or that of these sources which is kept, if there is one: a proved one before others."""
-    if not paths.is_repository():
-        return store.read(paths.INSTALLED / name)
-    return store.find(name, sources.sum_of_sources(), sources.kit_line())
+    return find_all([name]).get(name)
+
+
+def find_all(names: Sequence[str]) -> Dict[str, store.Kept]:
+    """The installed or kept programs of these names, those that there are."""
+    if not names:
+        return {}
+    if paths.is_repository():
+        told, kit = sources.sum_of_sources(), sources.kit_line()
+        found = {name: store.find(name, told, kit) for name in names}
+    else:
+        found = {name: store.read(paths.INSTALLED / name) for name in names}
+    return {name: it for name, it in found.items() if it}
 
 
 def _told(name: str) -> Optional[Program]:

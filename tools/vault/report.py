@@ -2,9 +2,9 @@
 from __future__ import annotations
 
 import re
-from dataclasses import dataclass, field, replace
 from typing import List, Optional, Sequence, Tuple
 
+from .records import dataclass, field, replace
 from .source import Place
 
 

@@ -2,11 +2,11 @@
 from __future__ import annotations
 
 import re
-from dataclasses import dataclass
 from functools import lru_cache
 from typing import Dict, Tuple
 
 from .paths import TOP
+from .records import dataclass
 
 RULES = "docs/RULES.md"
 

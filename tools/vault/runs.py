@@ -2,7 +2,6 @@
 from __future__ import annotations
 
 import re
-from dataclasses import dataclass
 from typing import Callable, Dict, List, Optional, Sequence, Tuple
 
 from . import syntax as s
@@ -10,6 +9,7 @@ from .ask import Reply
 from .declarations import Declarations, nearest
 from .lists import Cleaned
 from .picture import Cure, Label, Picture, View, Way
+from .records import dataclass
 from .report import Bad, ListFault, Report, Stop
 from .scope import statement_starting
 from .shapes import Shapes, meaning, words_of

@@ -1,11 +1,11 @@
 """What is known at a place of a function's body: the variables in scope with their types, and the statement that stands there."""
 from __future__ import annotations
 
-from dataclasses import dataclass
 from typing import Dict, List, Optional, Tuple
 
 from . import syntax as s
 from .declarations import Declarations, header_keys, substitute
+from .records import dataclass
 
 
 @dataclass(frozen=True)

@@ -8,13 +8,13 @@ import shlex
 import subprocess
 import sys
 import tempfile
-from dataclasses import dataclass
 from functools import partial
 from pathlib import Path
 from typing import Iterator, List, Tuple
 
 from . import paths, programs
 from .programs import Program
+from .records import dataclass
 from .suite import Part, first_difference
 
 COLUMNS = "78"

@@ -2,11 +2,11 @@
 from __future__ import annotations
 
 import re
-from dataclasses import dataclass
 from typing import List, Optional, Sequence, Tuple
 
 from . import syntax as s
 from .declarations import Declarations
+from .records import dataclass
 from .typing_of import BOOL, INT
 
 

@@ -1,11 +1,11 @@
 """Where a status that a fault finds came about: the last point of the fault's path at which it changed."""
 from __future__ import annotations
 
-from dataclasses import dataclass
 from typing import Callable, Optional, Sequence
 
 from .held import Atoms
 from .picture import View
+from .records import dataclass
 from .report import KeyFault, Path
 from .syntax import Block, Statement
 from .walk import Point, Walk, entered

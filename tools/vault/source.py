@@ -3,9 +3,10 @@ from __future__ import annotations
 
 import unicodedata
 from bisect import bisect_right
-from dataclasses import dataclass, field
 from pathlib import Path
 from typing import List
+
+from .records import dataclass, field
 
 # a text may have 1,048,576 bytes, so this is more than is ever looked at
 MOST_BYTES = 1 << 21

@@ -2,13 +2,13 @@
 
 from __future__ import annotations
 
-from dataclasses import dataclass
 from typing import Callable, Dict, Iterator, List, Optional, Tuple
 
 from . import speed_peers as peers
 from . import speed_texts as texts
 from .measure import Cost, Folder, each, installed, measure, own_memory
 from .programs import Program
+from .records import dataclass
 
 Row = List[str]
 

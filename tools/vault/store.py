@@ -9,11 +9,11 @@ import json
 import os
 import shutil
 import time
-from dataclasses import asdict, dataclass
 from pathlib import Path
 from typing import List, Optional, Tuple
 
 from . import paths
+from .records import dataclass
 from .sources import NO_KIT
 
 MOST = 5
@@ -99,7 +99,7 @@ def write(made: Path, note: Note) -> Kept:
     at.mkdir(parents=True, exist_ok=True)
     path = at / file_name(note.name, note.proved)
     part = Path(f"{path}.json.part")
-    part.write_text(json.dumps(asdict(note), indent=2) + "\n", encoding="utf-8")
+    part.write_text(json.dumps(vars(note), indent=2) + "\n", encoding="utf-8")
     os.chmod(made, 0o755)
     os.replace(made, path)
     os.replace(part, f"{path}.json")

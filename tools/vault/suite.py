@@ -7,11 +7,11 @@ import sys
 import time
 import traceback
 from concurrent.futures import FIRST_COMPLETED, Future, ThreadPoolExecutor, wait
-from dataclasses import dataclass, replace
 from enum import Enum
 from typing import Callable, Dict, Iterable, List, Optional, Sequence, TextIO
 
 from .programs import Program
+from .records import dataclass, replace
 
 WIDTH = 160
 """How many columns of a line a difference shows."""

@@ -1,8 +1,9 @@
 """What a Vault text consists of: types, declarations, statements and expressions. Each part knows the characters that it takes."""
 from __future__ import annotations
 
-from dataclasses import dataclass, field
 from typing import Iterator, List, Optional, Tuple
+
+from .records import dataclass, field
 
 
 @dataclass(frozen=True)

@@ -1,11 +1,11 @@
 """What is said of a broken rule on names and types, and what is known at its place."""
 from __future__ import annotations
 
-from dataclasses import dataclass
 from typing import Callable, Optional, Tuple
 
 from . import syntax as s
 from .picture import Cure, Label, View
+from .records import dataclass
 from .report import RuleFault
 from .scope import Scope, scope_at
 from .tokens import read_token

@@ -2,8 +2,9 @@
 from __future__ import annotations
 
 import re
-from dataclasses import dataclass
 from typing import Iterator, List, Tuple
+
+from .records import dataclass
 
 KEYWORDS = (
     "abstract adopt as become bool break case continue else extern false focus if input int into more new open print release "

@@ -7,12 +7,12 @@ go before it, so that each section can be carried out by itself.
 from __future__ import annotations
 
 import re
-from dataclasses import dataclass, field
 from functools import partial
 from pathlib import Path
 from typing import Dict, Iterator, List, Optional, Tuple
 
 from .programs import Program
+from .records import dataclass, field
 from .suite import Part, first_difference
 
 REPLY = re.compile(r"command (\d+): \$(.*)")

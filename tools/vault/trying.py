@@ -5,16 +5,16 @@ The program stops at the first error of a text, or on names and types, so that o
 they have nothing to do with the change: they are in a declaration that it doesn't touch, or about names that it doesn't have."""
 from __future__ import annotations
 
-from concurrent.futures import ThreadPoolExecutor
-from dataclasses import dataclass, replace
 from typing import Callable, List, Optional, Sequence, Set, Tuple
 
 from .ask import Reply
 from .edits import apply, changed_parts, moved
 from .parser import NotGrammar, Parser
 from .picture import Cure, Edit, View
+from .records import dataclass, replace
 from .report import Accepted, KeyFault, Report, RuleFault, TextFault
 from .scope import scope_at, statement_starting
+from .side_by_side import mapped
 from .source import Place, Source
 from .syntax import Span
 from .tokens import tokens
@@ -44,19 +44,17 @@ class Trial:
     def tested(self, fault: Report, cures: Sequence[Cure], most: int) -> List[Cure]:
         """The first cures that are good, at most so many."""
         found: List[Cure] = []
-        with ThreadPoolExecutor(self.jobs) as pool:
-            for start in range(0, len(cures), self.jobs):
-                some = cures[start : start + self.jobs]
-                good = pool.map(lambda cure: self.is_cured(fault, cure.edits), some)
-                found += [replace(cure, tested=True) for cure, is_good in zip(some, good) if is_good]
-                if len(found) >= most:
-                    break
+        for start in range(0, len(cures), self.jobs):
+            some = cures[start : start + self.jobs]
+            good = mapped(lambda cure: self.is_cured(fault, cure.edits), some, self.jobs)
+            found += [replace(cure, tested=True) for cure, is_good in zip(some, good) if is_good]
+            if len(found) >= most:
+                break
         return found[:most]
 
     def with_words(self, fault: Report, cures: Sequence[Cure]) -> Tuple[Cure, ...]:
         """Cures in their order. Changes that aren't good are left out, and the words stay."""
-        with ThreadPoolExecutor(self.jobs) as pool:
-            good = list(pool.map(lambda cure: bool(cure.edits) and self.is_cured(fault, cure.edits), cures))
+        good = mapped(lambda cure: bool(cure.edits) and self.is_cured(fault, cure.edits), cures, self.jobs)
         return tuple(
             replace(cure, tested=True) if is_good else replace(cure, edits=()) for cure, is_good in zip(cures, good)
         )

@@ -1,10 +1,10 @@
 """The points that a path of `vaultc explain` or `vaultq paths` comes by, in order."""
 from __future__ import annotations
 
-from dataclasses import dataclass
 from typing import Callable, List, Optional
 
 from . import syntax as s
+from .records import dataclass
 from .report import Choice, Path
 
 

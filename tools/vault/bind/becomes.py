@@ -7,12 +7,12 @@ from __future__ import annotations
 import copy
 import json
 import re
-from dataclasses import dataclass
 from typing import Any, List, Tuple
 
 from ..errors import Problem
 from ..explore.marks import FIRST_MARK
 from ..programs import Program
+from ..records import dataclass
 from .certificate import END, MARK
 
 REFUSED = re.compile(r"refused 5 statement (\d+)")

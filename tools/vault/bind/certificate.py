@@ -2,11 +2,11 @@
 from __future__ import annotations
 
 import json
-from dataclasses import dataclass
 from pathlib import Path
 from typing import Any, List, Optional, Tuple
 
 from ..errors import Problem
+from ..records import dataclass
 
 MARK, END = "/*VAULT-CERT\n", "\n*/"
 NONE = -1

@@ -4,9 +4,9 @@ An answer's numbers have the order that docs/LANGUAGE.md gives them: a state for
 the result."""
 from __future__ import annotations
 
-from dataclasses import dataclass
 from typing import List, Tuple
 
+from ..records import dataclass
 from .certificate import BOUND, TAKEN, Case, Certificate, FunctionRow, Shape, TypeRow, bits
 from .clauses import clause_text, states_text
 from .lasting import Lasting

@@ -5,11 +5,11 @@ from __future__ import annotations
 
 import itertools
 import re
-from dataclasses import dataclass, field
 from typing import Dict, Iterator, List, Optional
 
 from ..errors import Problem
 from ..programs import Program
+from ..records import dataclass, field
 from .becomes import Places
 from .certificate import BOUND, NEW, TAKEN, Certificate, FunctionRow, bits
 from .slots import slots

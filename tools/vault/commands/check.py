@@ -12,7 +12,6 @@ import sys
 from .. import ask, options as shared, programs
 from ..ask import Asker
 from ..cli import Parser
-from ..fixing import fix
 from ..judge import Judged, Wishes, jobs, judge, judge_all
 from ..picture import Cure, Picture, title
 
@@ -50,6 +49,9 @@ def run_as(command: str, options: argparse.Namespace) -> int:
 
 def fix_file(name: str, asker: Asker, yes: bool) -> Judged:
     """Carries out cures in a file, and says on standard error what was done."""
+    # what few calls need is imported where it is needed
+    from ..fixing import fix
+
     judged, done = fix(name, asker, lambda picture, cure: yes or agrees(picture, cure))
     for text in done:
         sys.stderr.write(f"{name}: {title(text)}\n")

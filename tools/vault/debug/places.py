@@ -7,7 +7,6 @@ from __future__ import annotations
 import json
 import re
 from concurrent.futures import ThreadPoolExecutor
-from dataclasses import dataclass
 from typing import Any, Dict, List, Optional
 
 from .. import syntax as s
@@ -16,6 +15,7 @@ from ..declarations import Declarations
 from ..errors import Problem
 from ..explore.marks import FIRST_MARK, with_marks
 from ..programs import Program
+from ..records import dataclass
 from ..source import Source
 
 FUNCTION = re.compile(r"(?:void|long long|vr_ref) f(\d+) \(.*\) \{")

@@ -3,11 +3,11 @@ from __future__ import annotations
 
 import itertools
 import re
-from dataclasses import dataclass
 from typing import Dict, Iterator, List, Sequence, Tuple
 
 from .. import syntax as s
 from ..declarations import Declarations
+from ..records import dataclass
 
 LARGEST = 2**63 - 1
 

@@ -3,11 +3,11 @@
 The run of a text with marks does what that of the text does, and prints more: so it shows which statements were reached, and at which one it ended."""
 from __future__ import annotations
 
-from dataclasses import dataclass
 from typing import Dict, List, Optional, Tuple
 
 from .. import syntax as s
 from ..declarations import Declarations
+from ..records import dataclass
 from ..source import Place, Source
 
 FIRST_MARK = 9_223_372_036_854_000_000

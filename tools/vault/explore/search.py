@@ -9,13 +9,13 @@ import re
 import tempfile
 import threading
 from concurrent.futures import ThreadPoolExecutor
-from dataclasses import dataclass, field
 from pathlib import Path
 from typing import Callable, Dict, Iterator, List, Sequence, Set, Tuple
 
 from .. import syntax as s
 from ..declarations import Declarations
 from ..programs import Program
+from ..records import dataclass, field
 from ..source import Place, Source
 from .choices import Held, answers, calls, entry_functions
 from .marks import Marked, mark, place

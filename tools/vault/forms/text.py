@@ -6,10 +6,10 @@ import re
 import shutil
 import sys
 import textwrap
-from dataclasses import dataclass
 from typing import List, Optional, Sequence, Tuple
 
 from ..picture import Cure, Label, Picture, Way
+from ..records import dataclass
 from ..source import Source
 
 # what is written into a pipe is wrapped to this

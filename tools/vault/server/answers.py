@@ -1,7 +1,6 @@
 """What the server answers of an open text: keys that are held, declarations, uses, names that fit, and layouts."""
 from __future__ import annotations
 
-from dataclasses import dataclass
 from pathlib import Path
 from typing import Any, Dict, Iterator, List, Optional, Set, Tuple
 
@@ -11,6 +10,7 @@ from ..ask import Asker, Reply
 from ..declarations import Declarations
 from ..held import Table
 from ..picture import Picture, View
+from ..records import dataclass
 from ..scope import Scope, scope_at
 from ..tokens import KEYWORDS
 from .documents import Document

@@ -3,7 +3,6 @@ from __future__ import annotations
 
 import urllib.parse
 from concurrent.futures import ThreadPoolExecutor
-from dataclasses import dataclass, field
 from pathlib import Path
 from typing import Any, Dict, List, Optional
 
@@ -14,6 +13,7 @@ from ..declarations import Declarations
 from ..held import Table
 from ..judge import Wishes, pictures_of
 from ..picture import Picture, View
+from ..records import dataclass, field
 from ..report import KeyFault, Report, RuleFault, TextFault
 from ..source import Source
 from ..texts import other_picture

@@ -2,13 +2,13 @@
 from __future__ import annotations
 
 import json
-from dataclasses import replace
 from pathlib import Path
 from typing import Any, Dict, List
 
 from .. import paths
 from .. import syntax as s
 from ..picture import Cure, Label, Picture, title
+from ..records import replace
 from .documents import Document
 
 SEVERITY = {"error": 1, "warning": 2, "note": 3, "ok": 4}

@@ -4,7 +4,6 @@ from __future__ import annotations
 import queue
 import threading
 import time
-from dataclasses import dataclass
 from pathlib import Path
 from typing import Any, BinaryIO, Callable, Dict, Optional, Set
 
@@ -12,6 +11,7 @@ from .. import ask, setups, sources
 from ..ask import Asker
 from ..errors import NoProgram, Problem
 from ..programs import Answer, Program
+from ..records import dataclass
 from ..source import Source
 from . import answers, errors_shown
 from .documents import Document

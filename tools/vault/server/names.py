@@ -4,12 +4,12 @@ Types, functions and state sets are known everywhere; variables, parameters and 
 states in their set."""
 from __future__ import annotations
 
-from dataclasses import dataclass
 from typing import Iterator, List, Optional, Tuple
 
 from .. import syntax as s
 from ..declarations import Declarations
 from ..picture import View
+from ..records import dataclass
 from ..scope import scope_at
 from ..tokens import Token, tokens
 

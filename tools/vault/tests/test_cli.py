@@ -25,6 +25,8 @@ class CommandLine(unittest.TestCase):
         self.assertEqual((ran.returncode, ran.stderr), (0, ""))
         listed: List[str] = [line.split()[0] for line in ran.stdout.splitlines() if line.startswith("  ")]
         self.assertEqual(sorted(listed), cli.command_names())
+        for name in listed:
+            self.assertEqual(cli.line_of(name), (cli.module_of(name).__doc__ or "").partition("\n")[0])
 
     def test_no_words_give_the_help_as_an_error(self) -> None:
         ran = vault()
@@ -80,7 +82,14 @@ class Output(unittest.TestCase):
 
 
 class OldPython(unittest.TestCase):
-    SCRIPTS = ("vault", "vaultc")
+    SCRIPTS = ("vault", "vaultc", "vaultq")
+
+    def test_no_python_is_told(self) -> None:
+        for name in self.SCRIPTS:
+            how = {"stdout": subprocess.PIPE, "stderr": subprocess.PIPE, "universal_newlines": True, "env": {"PATH": "/nowhere"}}
+            ran = subprocess.run(["/bin/sh", str(paths.TOP / "bin" / name)], **how)
+            self.assertEqual((ran.returncode, ran.stdout), (70, ""))
+            self.assertEqual(ran.stderr, f"{name}: this needs Python 3.8 or later, and there is no python3 in the PATH\n")
 
     def test_old_python_is_told_what_is_needed(self) -> None:
         for name in self.SCRIPTS:
