@@ -7,6 +7,7 @@ import gzip
 import hashlib
 import io
 import os
+import re
 import tarfile
 from pathlib import Path, PurePosixPath
 from typing import Dict, Iterable, List, Set
@@ -34,7 +35,10 @@ Description: checks, runs and compiles programs in Vault
 """
 
 CLOSING_LINES = 12
-"""How many lines of the gate's log go beside the packages."""
+"""How many lines of what `rt ci` wrote go beside the packages."""
+
+RESULT = re.compile(r"\d+ passed, \d+ failed")
+"""The last line of `rt ci`, and that of the tools' tests after it."""
 
 
 def archive(items: Iterable[Item], top: str, when: int) -> bytes:
@@ -110,15 +114,18 @@ def common_archive(parts: Dict[str, bytes], when: int) -> bytes:
 
 
 def closing_lines(log: Path) -> str:
-    """The end of a log of the gate, whose last line has to say that nothing failed."""
+    """The end of what `rt ci` wrote into a log of the gate, and the last line of the tools' tests if they ran; both have to say that
+    nothing failed."""
     try:
         lines = log.read_text(encoding="utf-8", errors="replace").splitlines()
     except OSError as error:
         raise Problem(f"{log}: {error.strerror}")
-    ends = [number for number, line in enumerate(lines) if line.endswith(" passed, 0 failed")]
-    if not ends:
-        raise Problem(f"{log}: no line says 'N passed, 0 failed', so this isn't the log of a gate that passed")
-    return "".join(f"{line}\n" for line in lines[max(0, ends[-1] + 1 - CLOSING_LINES) : ends[-1] + 1])
+    results = [number for number, line in enumerate(lines) if RESULT.fullmatch(line)]
+    told = sorted({*results[:1], *results[-1:]})
+    if not told or any(not lines[number].endswith(" passed, 0 failed") for number in told):
+        raise Problem(f"{log}: it doesn't say 'N passed, 0 failed' of the proofs and of the tests, so this isn't the log of a gate that passed")
+    end = told[0] + 1
+    return "".join(f"{line}\n" for line in [*lines[max(0, end - CLOSING_LINES) : end], *(lines[number] for number in told[1:])])
 
 
 def write_packages(items: List[Item], folder: Path, gate: str, suffix: str = "") -> List[Path]:

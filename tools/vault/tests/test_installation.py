@@ -88,9 +88,16 @@ class InstalledBelowAFolder(unittest.TestCase):
 
     def test_a_log_of_a_gate_that_failed_is_refused(self) -> None:
         log = self.top / "log"
-        log.write_text("129 passed, 1 failed\n")
-        with self.assertRaisesRegex(packages.Problem, "isn't the log of a gate that passed"):
-            cli.dispatch(["package", "--gate", str(log), "--to", str(self.top / "none")])
+        for said in ("129 passed, 1 failed\n", "129 passed, 1 failed\ntools\n9 passed, 0 failed\n", "130 passed, 0 failed\n8 passed, 1 failed\n", ""):
+            log.write_text(said)
+            with self.subTest(said), self.assertRaisesRegex(packages.Problem, "isn't the log of a gate that passed"):
+                cli.dispatch(["package", "--gate", str(log), "--to", str(self.top / "none")])
+
+    def test_closing_lines_are_those_of_the_proofs_and_the_last_one_of_the_tests(self) -> None:
+        log = self.top / "log"
+        tools = "".join(f"passed 1.0 s tools: {number}\n" for number in range(20))
+        log.write_text(f"rt: ok; every proof was done in this run\n137 passed, 0 failed\n{tools}58 passed, 1 failed\n{tools}59 passed, 0 failed\n")
+        self.assertEqual(packages.closing_lines(log), "rt: ok; every proof was done in this run\n137 passed, 0 failed\n59 passed, 0 failed\n")
 
 
 class Reading(unittest.TestCase):
