@@ -17,7 +17,7 @@ HEAVY = {"dataclasses", "inspect", "concurrent.futures", "logging", "difflib", "
 
 def imported(*words: str) -> Set[str]:
     """The modules that `vault` imports for these words, in the way in which `bin/vault` starts Python."""
-    whole = [sys.executable, "-SE", "-X", "importtime", str(paths.TOP / "bin" / "vault"), *words]
+    whole = [sys.executable, "-SEB", "-X", "importtime", str(paths.TOP / "bin" / "vault"), *words]
     ran = subprocess.run(whole, stdin=subprocess.DEVNULL, stdout=subprocess.DEVNULL, stderr=subprocess.PIPE, universal_newlines=True)
     lines = [line.split("|") for line in ran.stderr.splitlines() if line.startswith("import time:")]
     return {line[2].strip() for line in lines[1:]}
@@ -26,7 +26,7 @@ def imported(*words: str) -> Set[str]:
 class Startup(unittest.TestCase):
     def test_script_starts_python_as_it_is_counted_here(self) -> None:
         for name in ("vault", "vaultc", "vaultq"):
-            self.assertIn('exec python3 -SE "$0" "$@"\n', (paths.TOP / "bin" / name).read_text())
+            self.assertIn('exec python3 -SEB "$0" "$@"\n', (paths.TOP / "bin" / name).read_text())
 
     def test_check_imports_little(self) -> None:
         for name in ("lock.v", "lock_kept.v"):
