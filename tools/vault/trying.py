@@ -5,7 +5,7 @@ The program stops at the first error of a text, or on names and types, so that o
 they have nothing to do with the change: they are in a declaration that it doesn't touch, or about names that it doesn't have."""
 from __future__ import annotations
 
-from typing import Callable, List, Optional, Sequence, Set, Tuple
+from typing import Callable, List, Sequence, Set, Tuple
 
 from .ask import Reply
 from .edits import apply, changed_parts, moved

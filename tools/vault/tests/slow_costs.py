@@ -64,11 +64,16 @@ class Memory(Costs):
         spent = self.cost("check", "bound.v", speed_texts.bound_choices(31, 250, 1000, False), 0)
         self.assertLess(spent.memory, 180_000_000)
 
-    def test_verify_takes_so_many_bytes_for_each_of_its_file(self) -> None:
-        emitted = self.program.ask(["emit", self.folder.write("loops.v", speed_texts.loops(4000))], folder=self.folder.path).output
-        spent = self.cost("verify", "loops.c", emitted, 0)
-        self.assertGreater(spent.memory, own_memory())
-        self.assertLess(spent.memory, 24 * len(emitted))
+    def test_each_command_takes_so_many_bytes_for_each_of_its_file(self) -> None:
+        """The bounds of docs/COMMANDS.md. A cost is never less than this process's own memory, so that is no fault."""
+        text = speed_texts.loops(4000)
+        emitted = self.program.ask(["emit", self.folder.write("loops.v", text)], folder=self.folder.path).output
+        bounds = {"fmt": 80, "check": 100, "explain": 100, "run": 100, "emit": 150, "crun": 20, "verify": 24}
+        for command, most in bounds.items():
+            with self.subTest(command):
+                name, written = ("loops.c", emitted) if command in ("crun", "verify") else ("loops.v", text)
+                spent = self.cost(command, name, written, 0)
+                self.assertLess(spent.memory, max(most * len(written), own_memory() + 1))
 
     def test_refusing_a_c_text_takes_so_many_bytes_for_each_of_it(self) -> None:
         text = speed_texts.C_LINES + "{" * 6_000_000

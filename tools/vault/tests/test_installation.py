@@ -13,7 +13,7 @@ from pathlib import Path
 from typing import Dict, List
 from unittest import mock
 
-from vault import cli, completions, installation, manual, packages, paths, sources, store
+from vault import cli, completions, installation, manual, packages, sources, store
 
 SCRIPT = "#!/bin/sh\necho asked: \"$@\"\n"
 
