@@ -107,8 +107,11 @@ agree_read a (a_join n ∷ xs) m k c =
     let ys = map (read a) xs in
     (sym (first n (a.following n) (after_in ys n)), agree_past a (at_join n (a.following n)) ys xs (suc n) k (least_number n) c.1 (agree_read a xs (suc n) k c.1))
 
--- so they hold where it does
+-- so they have the maps that it has there
+pub read_alike : (a : Notes) (s : Block) → SameBlock a (notes_in (map (read a) (noted_block 0 s))) 0 s
+read_alike a s =
+    same_block a (notes_in (map (read a) (noted_block 0 s))) s 0 (agree_read a (noted_block 0 s) 0 (0 + size_block s) (climb_block 0 s))
+
+-- and hold where it does
 pub read_local : (a : Notes) (s : Block) (h : HeldMap) → IsLocalBlock a None 0 h s → IsLocalBlock (notes_in (map (read a) (noted_block 0 s))) None 0 h s
-read_local a s h local =
-    let b = notes_in (map (read a) (noted_block 0 s)) in
-    local_block_alike s a b None 0 h (same_block a b s 0 (agree_read a (noted_block 0 s) 0 (0 + size_block s) (climb_block 0 s))) tt local
+read_local a s h local = local_block_alike s a (notes_in (map (read a) (noted_block 0 s))) None 0 h (read_alike a s) tt local
