@@ -76,7 +76,10 @@ def with_order(top: Path, text: str) -> str:
 
 # ---- the benchmark on the first page
 
-COMPARED = {"vaultc": "vault", "gcc -fanalyzer": "gcc", "clang --analyze": "clang", "splint": "splint", "sparse -Wcontext": "sparse", "cppcheck": "cppcheck", "rustc": "rustc"}
+COMPARED = {
+    "vaultc": "vault", "gcc -fanalyzer": "gcc", "clang --analyze": "clang", "splint": "splint", "sparse -Wcontext": "sparse", "cppcheck": "cppcheck",
+    "clang++ -Wconsumed": "clang -Wconsumed", "clang++ -Wthread-safety": "clang -Wthread-safety", "rustc": "rustc",
+}
 """The columns of the benchmark that the first page shows, and their heads there."""
 
 

@@ -4,6 +4,7 @@ from __future__ import annotations
 import importlib
 import json
 import re
+import shutil
 import subprocess
 import sys
 import unittest
@@ -14,9 +15,10 @@ from vault.errors import NoProgram
 BENCH = paths.TOP / "bench"
 sys.path.insert(0, str(BENCH))
 
-clang, cppcheck, gcc, rustc, sparse, splint = (
-    importlib.import_module(f"adapters.{name}") for name in ("clang", "cppcheck", "gcc", "rustc", "sparse", "splint")
+clang, consumed, cppcheck, gcc, rustc, sparse, splint, thread_safety = (
+    importlib.import_module(f"adapters.{name}") for name in ("clang", "consumed", "cppcheck", "gcc", "rustc", "sparse", "splint", "thread_safety")
 )
+large = importlib.import_module("large")
 messages, scoring = importlib.import_module("messages"), importlib.import_module("scoring")
 Diagnostic, Edit, ToolError, score = messages.Diagnostic, messages.Edit, messages.ToolError, scoring.score
 
@@ -90,6 +92,15 @@ class Texts(unittest.TestCase):
             told = json.loads((case / "case.json").read_text(encoding="utf-8"))
             self.assertLessEqual(set(told.get("by_design", {})), {"c", "cpp", "rs"})
             self.assertEqual((case / "wrong.c").is_file(), "c" not in told.get("not_applicable", {}), case.name)
+            self.assertTrue((case / "wrong.cpp").is_file(), case.name)
+
+    def test_a_large_text_has_its_function_so_many_times(self) -> None:
+        for ending in ("c", "cpp", "rs", "v"):
+            with self.subTest(ending):
+                text = (BENCH / "cases" / large.MODEL / f"right.{ending}").read_text(encoding="utf-8")
+                more = large.repeat(text, 3)
+                self.assertEqual(re.findall(r"\bwork_\d+", more), ["work_1", "work_2", "work_3"])
+                self.assertEqual(len(re.findall(r"\bwhile\b", more)), 3)
 
 
 class Adapters(unittest.TestCase):
@@ -109,6 +120,14 @@ class Adapters(unittest.TestCase):
     def test_clang(self) -> None:
         said = "wrong.c:5:12: warning: Potential leak of memory pointed to by 's' [unix.Malloc]\n1 warning generated.\n"
         self.assertEqual(clang.diagnostics(said, "wrong.c", 0), [Diagnostic("unix.Malloc", "Potential leak of memory pointed to by 's'", 5)])
+
+    def test_clang_over_cpp(self) -> None:
+        said = "wrong.cpp:6:7: warning: invalid invocation of method 'drop' on object 's' while it is in the 'consumed' state [-Wconsumed]\n"
+        said += "wrong.cpp:6:7: warning: releasing mutex 's' that was not held [-Wthread-safety-analysis]\nwrong.cpp:5:7: note: mutex released here\n"
+        words = "invalid invocation of method 'drop' on object 's' while it is in the 'consumed' state"
+        self.assertEqual(consumed.diagnostics(said, "wrong.cpp", 0), [Diagnostic("-Wconsumed", words, 6)])
+        released = Diagnostic("-Wthread-safety-analysis", "releasing mutex 's' that was not held", 6, (5,))
+        self.assertEqual(thread_safety.diagnostics(said, "wrong.cpp", 0), [released])
 
     def test_cppcheck(self) -> None:
         said = "wrong.c:5: warning: Resource leak: s [resourceLeak]\n"
@@ -157,6 +176,14 @@ class Scores(unittest.TestCase):
     def test_edits_are_made_where_they_stand(self) -> None:
         edits = (Edit((1, 2), (1, 3), "xyz"), Edit((3, 1), (3, 1), "new\n"))
         self.assertEqual(messages.apply(edits, b"abc\ndef\nghi\n"), b"axyzc\ndef\nnew\nghi\n")
+
+
+@unittest.skipUnless(shutil.which("clang++"), "clang++ isn't installed")
+class Headers(unittest.TestCase):
+    def test_cpp_texts_compile(self) -> None:
+        files = map(str, sorted(BENCH.glob("cases/*/*.cpp")))
+        words = ["clang++", "-std=c++17", "-fsyntax-only", "-Wall", "-Wextra", "-Werror", "-I", str(BENCH / "include"), *files]
+        self.assertEqual(subprocess.run(words).returncode, 0)
 
 
 class Words(unittest.TestCase):

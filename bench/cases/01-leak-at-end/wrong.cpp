@@ -1,0 +1,6 @@
+#include "sensor.hpp"
+int work() {
+    sensor s(20);
+    s.set_last(1);
+    return 0;  // fault
+}

@@ -1,0 +1,8 @@
+#include "sensor.hpp"
+int work() {
+    sensor s(20);
+    s.set_last(1);
+    s.drop();
+    s.drop();  // fault
+    return 0;
+}

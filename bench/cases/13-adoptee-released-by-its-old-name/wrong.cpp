@@ -1,0 +1,10 @@
+#include "region.hpp"
+int work() {
+    region r;
+    node x(7);
+    x.set_value(1);
+    r.adopt(x);
+    x.drop();  // fault
+    r.drop();
+    return 0;
+}

@@ -1,0 +1,8 @@
+#include "sensor.hpp"
+int work() {
+    sensor s(20);
+    box b;
+    b.own(s);
+    b.set_size(1);
+    return 0;  // fault
+}

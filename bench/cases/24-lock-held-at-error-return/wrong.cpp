@@ -1,0 +1,9 @@
+#include "lock.hpp"
+void pay(lock &l COMES(consumed) STAYS(consumed), int cents) WITHOUT(l) {
+    l.acquire();
+    if (cents > 100) {
+        return;  // fault
+    }
+    report(cents);
+    l.unlock();
+}

@@ -1,0 +1,6 @@
+#include "request.hpp"
+int work() {
+    request q;
+    q.complete();  // fault
+    return 0;
+}

@@ -1,0 +1,9 @@
+#include "sensor.hpp"
+int work() {
+    sensor s(20);
+    s.on();
+    report(s.value());
+    s.off();
+    s.drop();
+    return 0;
+}

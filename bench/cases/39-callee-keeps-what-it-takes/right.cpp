@@ -1,0 +1,10 @@
+#include "sensor.hpp"
+static void consume(sensor &s COMES(unknown) STAYS(consumed)) WITHOUT(s.power) LOSES(s) {
+    s.set_last(1);
+    s.drop();
+}
+int work() {
+    sensor s(20);
+    consume(s);
+    return 0;
+}

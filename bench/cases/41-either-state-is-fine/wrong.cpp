@@ -1,0 +1,17 @@
+#include "sensor.hpp"
+int work() {
+    sensor s(20);
+    int n = 0;
+    while (n < 3) {
+        n = ask();
+        if (n > 0) {
+            s.on();
+        } else {
+            s.off();
+        }
+    }
+    report(s.value());  // fault
+    s.off();
+    s.drop();
+    return 0;
+}

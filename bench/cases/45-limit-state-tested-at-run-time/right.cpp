@@ -1,0 +1,13 @@
+#include "sensor.hpp"
+int work() {
+    sensor s(20);
+    if (ask() > 0) {
+        s.on();
+    }
+    if (s.is_on()) {
+        report(s.value());
+    }
+    s.off();
+    s.drop();
+    return 0;
+}
