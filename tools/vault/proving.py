@@ -22,8 +22,8 @@ GIGABYTE = 1_000_000_000
 # bytes of memory that have to be free, and the most that one process may take
 MEMORY = 3 * GIGABYTE
 MOST = 6 * GIGABYTE
-# bytes of the disk that have to be free where `rt` keeps proofs, and where it works
-DISK = 10 * GIGABYTE
+# bytes of the disk that have to be free where `rt` keeps proofs, and where it works: what is proved takes 7, and `rt` leaves 5 free
+DISK = 12 * GIGABYTE
 # seconds between two looks
 PAUSE = 0.5
 # parts of a crate's folder that are no part of its proof
@@ -188,7 +188,7 @@ class Run:
 
     def words(self, busy: List[str]) -> str:
         """How far it is, and which crates are being proved."""
-        now = f": {', '.join(busy)}" if busy else ""
+        now = f": {', '.join(busy)}" if busy else "" if self.log.has_begun else ": `rt` reads the crates"
         gone, left = duration(self.progress.gone), duration(self.seconds_left())
         return f"{len(self.log.done)} of {len(self.listed)} crates, {gone} gone, about {left} left{now}"
 
