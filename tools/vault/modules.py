@@ -88,31 +88,39 @@ def gives(module: s.Declaration, interface: s.Declaration) -> bool:
     return isinstance(interface, s.Function) and isinstance(module, s.Function) and not module.is_external
 
 
-def join(interface: Source, module: Source) -> Optional[JoinedView]:
-    """The view of an interface with a module; None if one of them isn't of the grammar. Where no function is called `main` one is
+def join(interface: Source, *modules: Source) -> Optional[JoinedView]:
+    """The view of an interface with modules; None if one of them isn't of the grammar. Where no function is called `main` one is
     added, since the view is asked of as a program."""
-    outer, inner = parse(interface.text), parse(module.text)
-    if outer is None or inner is None:
+    outer, inners = parse(interface.text), [(module, parse(module.text)) for module in modules]
+    if outer is None:
         return None
-    own = given(inner)
-    used = set()
+    own: Dict[str, Tuple[Source, s.Declaration]] = {}
+    inner: List[Tuple[Source, s.Declaration]] = []
+    for module, program in inners:
+        if program is None:
+            return None
+        inner += [(module, one) for one in program.declarations]
+        for name, one in given(program).items():
+            own.setdefault(name, (module, one))
     order: List[Tuple[Source, s.Declaration]] = []
     for declaration in outer.declarations:
         other = own.get(declaration.name.text)
-        if other is not None and gives(other, declaration) and other.span.start not in used:
-            used.add(other.span.start)
-            order.append((module, other))
-        else:
-            order.append((interface, declaration))
-    order += [(module, one) for one in inner.declarations if one.span.start not in used]
+        is_given = other is not None and gives(other[1], declaration) and other not in order
+        order.append(other if other is not None and is_given else (interface, declaration))
+    return joined(modules[-1], order + [it for it in inner if it not in order])
+
+
+def joined(last: Source, order: Sequence[Tuple[Source, s.Declaration]]) -> JoinedView:
+    """The view of declarations of several files, in this order; a `main` that is added stands at the end of the last file."""
     text, pieces = "", []
     for source, declaration in order:
         pieces.append(Piece(len(text), source, declaration.span))
         text += source.text[declaration.span.start : declaration.span.end] + "\n"
     if not any(isinstance(one, s.Function) and one.name.text == "main" and not one.is_external for _, one in order):
-        pieces.append(Piece(len(text), module, s.Span(len(module.text.rstrip()), len(module.text.rstrip()))))
+        end = len(last.text.rstrip())
+        pieces.append(Piece(len(text), last, s.Span(end, end)))
         text += MAIN
-    return JoinedView(Source(module.name, text.encode("utf-8", "replace")), pieces=tuple(pieces))
+    return JoinedView(Source(last.name, text.encode("utf-8", "replace")), pieces=tuple(pieces))
 
 
 def same_place(view: JoinedView, asked: Report, found: Report, name: str) -> bool:

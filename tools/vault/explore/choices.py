@@ -3,7 +3,7 @@ from __future__ import annotations
 
 import itertools
 import re
-from typing import Dict, Iterator, List, Sequence, Tuple
+from typing import Dict, Iterator, List, Optional, Sequence, Tuple
 
 from .. import syntax as s
 from ..declarations import Declarations
@@ -92,6 +92,35 @@ def are_apart(function: s.Function, arguments: Sequence[str]) -> bool:
     return len(set(in_clause)) == len(in_clause)
 
 
+def after_call(declarations: Declarations, held: Sequence[Held], call: str, next_number: int) -> Optional[List[Held]]:
+    """What a host holds after a call that comes back, if a new object gets this number; None if the clause leaves several states of an object."""
+    name, *words = call.split()
+    function = declarations.find(name, s.Function)
+    if function is None:
+        return None
+    found = {it.number: it for it in held}
+    numbers = {it.type.key: int(word[1:]) for it, word in zip(function.parameters, words) if it.type.form == "held"}
+    for entry in function.entries:
+        number = next_number if entry.mode == "new" else numbers.get(entry.key.text)
+        if number is None:
+            return None
+        if entry.mode == "taken":
+            found.pop(number, None)
+            continue
+        kind = function.result.name if entry.mode == "new" else found[number].type
+        every = declarations.states_of(kind)
+        left = left_states(entry) or every if entry.mode != "bound" else (found[number].state,)
+        if every and len(left) != 1:
+            return None
+        found[number] = Held(number, kind, left[0] if every else "")
+    return [found[number] for number in sorted(found)]
+
+
+def left_states(entry: s.Entry) -> Tuple[str, ...]:
+    """The states that an entry names of its object after the call; none if it names none."""
+    return entry.after or (() if entry.changes or entry.mode != "kept" else entry.before)
+
+
 def answers(declarations: Declarations, external: s.Function, numbers: Sequence[int]) -> List[str]:
     """The answers that keep an external's clause, as lines of an answers file."""
     ways = [states_after(declarations, external, entry) for entry in external.entries if entry.mode not in ("taken", "bound")]
@@ -102,8 +131,7 @@ def answers(declarations: Declarations, external: s.Function, numbers: Sequence[
 def states_after(declarations: Declarations, external: s.Function, entry: s.Entry) -> List[str]:
     """The states that an entry's object can be in after the call, by their numbers."""
     every = declarations.states_of(declarations.key_type(external, entry.key.text) or "")
-    after = entry.after or (() if entry.changes or entry.mode != "kept" else entry.before)
-    return [str(every.index(state)) for state in after or every if state in every] or ["0"]
+    return [str(every.index(state)) for state in left_states(entry) or every if state in every] or ["0"]
 
 
 def results(declarations: Declarations, kind: s.Type, numbers: Sequence[int]) -> List[str]:

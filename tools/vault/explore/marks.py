@@ -8,7 +8,7 @@ from typing import Dict, List, Optional, Tuple
 from .. import syntax as s
 from ..declarations import Declarations
 from ..records import dataclass
-from ..source import Place, Source
+from ..source import Source
 
 FIRST_MARK = 9_223_372_036_854_000_000
 """The number of the first mark; numbers as large as it are no driver's own."""
@@ -82,8 +82,3 @@ def function_text(shown: Shown, field: s.Field, states: str) -> str:
     """The text of a function that shows a field."""
     head = f"{field.type} {shown.function}(tracked(K) {shown.type} x) [K{states}]"
     return f"{head} {{ {field.type} v = x.{field.name.text}; return v; }}\n"
-
-
-def place(source: Source, statement: s.Statement) -> Place:
-    """Where a statement stands."""
-    return source.place(statement.span.start)
