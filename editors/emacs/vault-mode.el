@@ -34,13 +34,22 @@
   (setq-local tab-width 4)
   (setq font-lock-defaults '(vault-font-lock-keywords)))
 
+;; Files of other languages end with .v, too.
+(defconst vault-declaration "^\\s-*\\(?:\\(?:stateset\\|abstract\\|variant\\|extern\\)\\_>\\|// *vault\\_>\\)\\|\\_<tracked\\s-*[(@]"
+  "What a program in Vault has, and a file of another language hardly.")
+
+(defun vault-visits-program-p ()
+  "Whether the file is a program in Vault: by its ending, by its text, or since a vault.json lies beside it."
+  (and buffer-file-name
+       (or (string-suffix-p ".vi" buffer-file-name)
+           (and (string-suffix-p ".v" buffer-file-name)
+                (or (file-exists-p (expand-file-name "vault.json" (file-name-directory buffer-file-name)))
+                    (save-excursion
+                      (goto-char (point-min))
+                      (re-search-forward vault-declaration 20000 t)))))))
+
 ;;;###autoload
-(add-to-list 'magic-mode-alist
-             '((lambda () (and buffer-file-name (string-match-p "\\.vi?\\'" buffer-file-name)
-                               (save-excursion
-                                 (goto-char (point-min))
-                                 (re-search-forward "^\\s-*\\(?:stateset\\|abstract\\|variant\\|extern\\|tracked\\|// *vault\\)\\_>" 4000 t))))
-               . vault-mode))
+(add-to-list 'magic-mode-alist '(vault-visits-program-p . vault-mode))
 
 (with-eval-after-load 'eglot
   (add-to-list 'eglot-server-programs '(vault-mode . ("vault" "lsp"))))

@@ -2,7 +2,8 @@
 from __future__ import annotations
 
 import os
-from typing import List, Optional
+import re
+from typing import FrozenSet, List, Optional
 
 from . import crates, programs
 from .errors import NoProgram, Problem
@@ -22,12 +23,21 @@ class Reply:
     reports: List[Report]
 
 
+QUESTIONS = frozenset(["faults", "paths", "keys", "where"])
+"""What a `vaultq` may answer; its usage line names what it does answer."""
+
+
 @dataclass(frozen=True)
 class Asker:
-    """The programs that are asked: `vaultc`, and `vaultq` if there is one that answers `keys`."""
+    """The programs that are asked: `vaultc`, and `vaultq` if there is one, of which `questions` says what it answers."""
 
     vaultc: programs.Program
     vaultq: Optional[programs.Program]
+    questions: FrozenSet[str] = QUESTIONS
+
+    def answers(self, question: str) -> bool:
+        """Whether there is a `vaultq` that answers a question."""
+        return self.vaultq is not None and question in self.questions
 
     def faults(self, name: str, text: Optional[bytes] = None) -> Reply:
         """All faults of a file with their paths if there is a `vaultq`, else the first one. A text that is given is asked of in the
@@ -36,13 +46,19 @@ class Asker:
             return ask(self.vaultq, "paths", name, text)
         return ask(self.vaultc, "explain", name, text)
 
+    def places(self, name: str, text: Optional[bytes] = None) -> Reply:
+        """The same faults without their paths."""
+        if self.vaultq:
+            return ask(self.vaultq, "faults", name, text)
+        return ask(self.vaultc, "check", name, text)
+
     def first(self, name: str, text: Optional[bytes] = None) -> Reply:
         """The first fault of a file, without its paths."""
         return ask(self.vaultc, "check", name, text)
 
     def tables(self, name: str, text: Optional[bytes] = None) -> Optional[List[Table]]:
-        """What is held at each point of a file; None if there is no `vaultq`."""
-        return read_tables(ask(self.vaultq, "keys", name, text).lines) if self.vaultq else None
+        """What is held at each point of a file; None if no `vaultq` can say it."""
+        return read_tables(ask(self.vaultq, "keys", name, text).lines) if self.vaultq and self.answers("keys") else None
 
 
 def ask_words(program: programs.Program, words: List[str], text: Optional[bytes] = None) -> Reply:
@@ -57,30 +73,29 @@ def ask(program: programs.Program, command: str, name: str, text: Optional[bytes
 
 
 NAMES = ["vaultc", "vaultq"]
-KEYS = "keys F"
-"""How the usage line of a `vaultq` tells that it answers the question `keys`."""
 USAGE_SECONDS = 2.0
 """How long a program may take for its usage line."""
 
 
 def has_questions() -> bool:
-    """Whether a `vaultq` that isn't there is compiled: only if it answers `keys`, so if it rests on the crate `vlt_points`; and not beside
-    the variable VAULTC, since that is for tests."""
-    listed = crates.read()
-    return not os.environ.get("VAULTC") and "vaultq" in listed and "vlt_points" in crates.below(["vaultq"], listed)
+    """Whether a `vaultq` that isn't there is compiled; not beside the variable VAULTC, since that is for tests."""
+    return not os.environ.get("VAULTC") and "vaultq" in crates.read()
 
 
-def with_keys(program: Optional[programs.Program]) -> Optional[programs.Program]:
-    """The program, but None if its usage line lacks `keys`: pictures are made of both questions or of neither. One that gives no usage line
-    is kept, so that who asks it is told why."""
+def answered(program: Optional[programs.Program]) -> FrozenSet[str]:
+    """The questions that the usage line of a program names. One that gives none is asked all, so that who asks it is told why."""
     if program is None:
-        return None
+        return frozenset()
     try:
         lines = program.ask([], timeout=USAGE_SECONDS).lines
     except Problem:
-        return program
-    usage = [line for line in lines if line.startswith("usage: ")]
-    return None if usage and KEYS not in usage[0] else program
+        return QUESTIONS
+    usage = next((line for line in lines if line.startswith("usage: ")), None)
+    return QUESTIONS if usage is None else frozenset(re.findall(r"\w+", usage)) & QUESTIONS
+
+
+def asker_of(vaultc: programs.Program, vaultq: Optional[programs.Program]) -> Asker:
+    return Asker(vaultc, vaultq, answered(vaultq))
 
 
 def find() -> Asker:
@@ -88,7 +103,7 @@ def find() -> Asker:
     found = programs.known(NAMES)
     if "vaultc" not in found:
         raise NoProgram("there is no vaultc of these sources")
-    return Asker(found["vaultc"], with_keys(found.get("vaultq")))
+    return asker_of(found["vaultc"], found.get("vaultq"))
 
 
 def take() -> Asker:
@@ -96,7 +111,7 @@ def take() -> Asker:
     found = programs.known(NAMES)
     wanted = NAMES if "vaultq" not in found and has_questions() else NAMES[:1]
     found.update(programs.take_all([name for name in wanted if name not in found]))
-    return Asker(found["vaultc"], with_keys(found.get("vaultq")))
+    return asker_of(found["vaultc"], found.get("vaultq"))
 
 
 def key_faults(reply: Reply) -> List[KeyFault]:

@@ -81,8 +81,9 @@ class Place:
 def place_of(text: str, offset: int) -> Optional[Place]:
     """The token at a character, the end of the text for one behind all; None if no token begins there."""
     parser = Parser(text)
-    number = next((n for n, token in enumerate(parser.tokens) if token.start >= offset), len(parser.tokens) - 1)
-    parser.tokens = [*parser.tokens[:number], parser.tokens[-1]]
+    every = parser.tokens
+    number = next((n for n, token in enumerate(every) if token.start >= offset), len(every) - 1)
+    parser.tokens = [*every[:number], every[-1]]
     first = 0
     try:
         while parser.at < number:
@@ -91,7 +92,29 @@ def place_of(text: str, offset: int) -> Optional[Place]:
             first = parser.at
     except NotGrammar:
         pass
-    return Place(tokens(text), number, first)
+    return Place(every, number, first)
+
+
+def abridged(prefix: Sequence[Token]) -> List[Token]:
+    """The beginning of a function without the statements that are complete, which don't change what may follow. One that ends just before
+    the place is kept, since an `else` may follow it."""
+    if not prefix or prefix[0].text in ("stateset", "abstract", "struct", "variant"):
+        return list(prefix)
+    kept: List[Token] = []
+    # where the current statement of each open block begins
+    starts: List[int] = []
+    is_complete = False
+    for token in prefix:
+        if is_complete and token.text not in ("else", ";"):
+            del kept[starts[-1] :]
+        kept.append(token)
+        is_complete = bool(starts) and token.is_sign(";")
+        if token.is_sign("{"):
+            starts.append(len(kept))
+        elif token.is_sign("}") and starts:
+            starts.pop()
+            is_complete = bool(starts)
+    return kept
 
 
 def is_taken(prefix: Sequence[Token], candidate: Token) -> bool:
@@ -107,7 +130,7 @@ def is_taken(prefix: Sequence[Token], candidate: Token) -> bool:
 
 def likely(text: str, place: Place) -> List[Tuple[str, str]]:
     """The kinds that the parser of this package takes at the place."""
-    prefix = place.tokens[place.first : place.number]
+    prefix = abridged(place.tokens[place.first : place.number])
     found = []
     for name, written in KINDS:
         one = tokens(written)[0]

@@ -424,4 +424,8 @@ BYTES = {
 
 def byte_cure(character: str) -> str:
     """What to do about a character that begins no token."""
-    return BYTES.get(character, "")
+    if character.isspace():
+        return "write a blank of the keyboard: this is another one"
+    if not character.isascii():
+        return "write signs of ASCII; letters of any language may stand in names and comments"
+    return BYTES.get(character, "remove it: no form of the language has it")

@@ -61,7 +61,7 @@ def fault_picture(view: View, fault: KeyFault, tables: Optional[List[Table]], as
     name = view.source.name
 
     def probing(story: KeyStory) -> Knowledge:
-        return Probes(story, lambda text: asker.first(name, text)).of
+        return Probes(story, lambda text: asker.places(name, text)).of
 
     story = KeyStory(view, fault, tables, probing if asker and not tables else None)
     picture = key_picture(story)
@@ -87,16 +87,18 @@ def picture_of(
 
 def other_picture_of(view: View, report: Report, status: int, asker: Optional[Asker]) -> Picture:
     """The picture of a report that isn't on keys, with changes that weren't tried."""
+    name = view.source.name
+    asked = (lambda text: asker.first(name, text).reports) if asker else None
     if isinstance(report, RuleFault):
         from .kinds import kind_picture
 
         return kind_picture(view, report)
     if isinstance(report, TextFault):
-        if asker is None or report.what not in ("token", "end"):
+        if asked is None or report.what not in ("token", "end"):
             return text_picture(view, report)
-        return token_picture(view, report, lambda text: asker.first(view.source.name, text).reports, jobs())
+        return token_picture(view, report, asked, jobs())
     if isinstance(report, Limit):
-        return limit_picture(view, report)
+        return limit_picture(view, report, asked)
     if isinstance(report, Accepted):
         return accepted_words(view.source, report)
     return other_picture(view, report, status)
@@ -108,7 +110,7 @@ def pictures_of(view: View, reply: Reply, asker: Asker, wishes: Wishes, text: Op
     has_faults = any(isinstance(one, KeyFault) for one in reports)
     is_program = has_faults or any(isinstance(one, Accepted) for one in reports)
     tables = asker.tables(view.source.name, text) if has_faults or wishes.lint and is_program else None
-    trial = Trial(view, reply.reports, lambda changed: asker.faults(view.source.name, changed), jobs()) if wishes.cures else None
+    trial = Trial(view, reply.reports, lambda changed: asker.places(view.source.name, changed), jobs()) if wishes.cures else None
     found = [picture_of(view, report, reply.status, tables, asker, trial) for report in reports]
     if wishes.repairs and trial:
         from .repairs import repairs

@@ -3,13 +3,13 @@ tried: the program is asked of the changed text, and what still has the fault, o
 from __future__ import annotations
 
 import re
+from itertools import islice
 from typing import Iterator, List, Optional, Sequence, Tuple
 
 from . import syntax as s
 from .declarations import Declarations
-from .edits import apply, drop, indent, put_after, put_before
+from .edits import drop, indent, put_after, put_before
 from .key_faults import KeyStory
-from .parser import parse
 from .picture import Cure, Edit
 from .since import is_about_states
 from .trying import Trial
@@ -368,7 +368,6 @@ def variable_advice(story: KeyStory) -> List[str]:
 
 def cures(story: KeyStory, trial: Trial) -> Tuple[Cure, ...]:
     """The changes that cure a fault, as they were tried; advice if none does."""
-    text = story.view.source.text
-    candidates = [cure for cure in Candidates(story).all() if parse(apply(text, cure.edits)) is not None][:MOST_TRIED]
+    candidates = list(islice((cure for cure in Candidates(story).all() if trial.is_grammar(cure.edits)), MOST_TRIED))
     helped = trial.tested(story.fault, candidates, MOST_SHOWN)
     return tuple(helped) or tuple(Cure(words) for words in advice(story))

@@ -282,7 +282,9 @@ class KeyStory:
             return [self.view.label(self.entry.span, f"the clause of `{self.function.name}` promises this of {self.name}")]
         found = clause_entry(self.declarations, call_of(self.statement), [*self.names, *self.guarded])
         if found:
-            return [self.view.label(found[1].span, f"`{found[0].name}` asks for this")]
+            gives = found[1].mode == "given" and self.fault.found.how != "absent"
+            text = "gives it, so it must not be held before" if gives else "asks for this"
+            return [self.view.label(found[1].span, f"`{found[0].name}` {text}")]
         owned = self.owned_parameter()
         if owned:
             return [owned]

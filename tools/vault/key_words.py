@@ -7,7 +7,7 @@ from . import syntax as s
 from .key_faults import LINK, KeyStory, step_picture
 from .picture import Picture, Way
 from .since import is_about_states
-from .uses import call_of, clause_entry, field_of, mentioned, use
+from .uses import call_of, clause_entry, field_of, mentioned, right_side, use
 
 # the message, and what is said at the fault's place
 Words = Tuple[str, str]
@@ -27,8 +27,14 @@ def absent_words(story: KeyStory) -> Words:
         gone, other = story.past(since.statement), story.object_at(since.statement)
         if isinstance(since.statement, s.Release) and isinstance(one, s.Release) and other == name:
             return f"{name} is released twice", f"{name} is gone already"
-        return f"{name} {doing} after {'it' if other == name else other} {gone}", f"{name} is gone here"
+        return f"{name} {doing} after {'it' if other == name else other} {gone}", f"{name} {lost(since.statement)}"
     return never_words(story, doing)
+
+
+def lost(statement: s.Statement) -> str:
+    """What has become of an object whose key a statement took."""
+    right = right_side(statement)
+    return f"belongs to `{right.owner}` here" if isinstance(right, s.Adopt) else "is gone here"
 
 
 def never_words(story: KeyStory, doing: str) -> Words:
@@ -47,7 +53,8 @@ def guarded_words(story: KeyStory) -> Words:
     doing = use(story.statement, story.guarded)
     since = story.since
     if since is not None and since.statement is not None:
-        return f"{guarded} {doing} after {owner}, which adopted it, {story.past(since.statement)}", f"{guarded} is gone here"
+        here = "is gone here" if isinstance(since.statement, s.Release) else f"can be touched only while {owner} is held"
+        return f"{guarded} {doing} after {owner}, which adopted it, {story.past(since.statement)}", f"{guarded} {here}"
     return f"{guarded} {doing} while {owner}, which adopted it, isn't held", f"this needs the key `{story.fault.key}`"
 
 

@@ -635,6 +635,14 @@ def no_new(context: Context) -> Optional[Told]:
     )
 
 
+def field_labels(context: Context, variable: str, member: str) -> Tuple[Label, ...]:
+    """The declaration of a field that owns its object."""
+    found = context.scope.find(variable) if context.scope else None
+    struct = context.declarations.find(found.type.name, s.Struct) if found and found.type else None
+    fields = [field for field in struct.fields if field.name.text == member] if struct else []
+    return tuple(context.label(s.Span(one.type.span.start, one.name.span.end), "this field owns an object") for one in fields)
+
+
 def owning_field(context: Context) -> Optional[Told]:
     one = own_statement(context)
     if isinstance(one, s.SetField):
@@ -642,7 +650,7 @@ def owning_field(context: Context) -> Optional[Told]:
         return Told(
             f"`{one.name}.{one.member}` owns its object, so it can't be assigned",
             "",
-            (),
+            field_labels(context, one.name.text, one.member.text),
             cure(f"exchange it: `swap {one.name}.{one.member}, {value};`, and `{value}` has the old object then"),
         )
     if isinstance(one, s.Swap):
@@ -653,10 +661,11 @@ def owning_field(context: Context) -> Optional[Told]:
             cure("give it an owning field and an owning variable of the same type"),
         )
     word = context.view.source.text[context.offset : context.offset + 60].split(";")[0].split(",")[0].split(")")[0]
+    variable, _, member = word.partition(".")
     return Told(
         f"`{word}` owns its object, so it can't be read",
         "",
-        (),
+        field_labels(context, variable.strip(), member.strip()),
         cure(f"exchange it for another object: `swap {word}, x;`, then `x` has it"),
     )
 

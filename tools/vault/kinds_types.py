@@ -122,8 +122,7 @@ def cures_of(context: Context, part: s.Expression, text: str, wanted: s.Type, fo
         if part.kind == "number" and isinstance(context.statement, (s.While, s.If)):
             word = "false" if part.text == "0" else "true"
             return (Cure(f"write `{word}`", (Edit(part.span, word),)),)
-        compared = f"{text} != 0" if part.kind != "operator" else f"({text}) != 0"
-        return (Cure(f"compare: `{compared}`", (Edit(part.span, compared),)),)
+        return compared_with_zero(context, part, f"({text})" if part.kind == "operator" else text)
     if wanted.form == "int" and found.form == "bool":
         one = context.statement
         if isinstance(one, s.Declare) and one.right is part:
@@ -143,8 +142,16 @@ def cures_of(context: Context, part: s.Expression, text: str, wanted: s.Type, fo
             f"the states differ: bring the object to {', '.join(f'`{state}`' for state in wanted.states) or 'such a state'} first"
         )
     if wanted.name and found.name and wanted.name != found.name:
-        return cure(f"use an object of a `{wanted.name}`")
+        return cure(f"pass an object of the type `{wanted.name}`")
     return cure(f"give {article(wanted)}")
+
+
+def compared_with_zero(context: Context, part: s.Expression, text: str) -> Tuple[Cure, ...]:
+    """A number where C tests whether it is zero; after `!` the test is the other one."""
+    is_of = (one for one in expressions(context.statement) if one.kind == "sign" and one.text == "!" and one.operands[0] is part)
+    whole = next(is_of, None)
+    compared = f"{text} == 0" if whole else f"{text} != 0"
+    return (Cure(f"compare: `{compared}`", (Edit((whole or part).span, compared),)),)
 
 
 def alias_cure(context: Context, part: s.Expression, text: str, found: s.Type) -> Tuple[Cure, ...]:
@@ -207,7 +214,7 @@ def declared_type(context: Context, one: s.Statement) -> Tuple[Label, ...]:
 
 def of_call(context: Context, typing: Typing, one: s.Statement, call: s.Call, wanted: s.Type, found: s.Type) -> Told:
     callee = typing.callee(call)
-    others = (context.label(callee.result.span, f"`{callee.name}` gives this"), *declared_type(context, one)[:0])
+    others = (context.label(callee.result.span, f"`{callee.name}` gives {'nothing' if found.form == 'void' else 'this'}"),)
     name = getattr(one, "name", "x")
     if found.form == "void":
         edit = Edit(one.span, f"{context.view.text_of(call.span)};")

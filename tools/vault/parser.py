@@ -10,6 +10,7 @@ T = TypeVar("T")
 
 # operators by how tightly they bind, the loosest first
 LEVELS = (("||",), ("&&",), ("|",), ("^",), ("&",), ("==", "!="), ("<", "<=", ">", ">="), ("+", "-"), ("*", "/", "%"))
+LEVEL_OF = {sign: level for level, signs in enumerate(LEVELS) for sign in signs}
 
 
 class NotGrammar(Exception):
@@ -452,15 +453,16 @@ class Parser:
 
     def expression(self, level: int = 0) -> s.Expression:
         """An expression whose operators are of a level or bind tighter; all group to the left."""
-        if level == len(LEVELS):
-            return self.operand()
         first = self.token
-        left = self.expression(level + 1)
-        while self.token.is_sign(*LEVELS[level]):
-            operator = self.take().text
-            right = self.expression(level + 1)
-            left = s.Expression("operator", operator, self.span(first), (left, right))
-        return left
+        left = self.operand()
+        while True:
+            operator = self.token
+            here = LEVEL_OF.get(operator.text, -1)
+            if here < level:
+                return left
+            self.take()
+            right = self.expression(here + 1)
+            left = s.Expression("operator", operator.text, self.span(first), (left, right))
 
     def operand(self) -> s.Expression:
         first = self.token

@@ -1,11 +1,12 @@
 """What a person is shown of an error: the words, the places, the steps that lead there, and the cures."""
 from __future__ import annotations
 
+from functools import cached_property
 from typing import Iterator, Optional, Tuple
 
 from .declarations import Declarations
 from .parser import parse
-from .records import dataclass, field
+from .records import dataclass
 from .report import Report
 from .source import Place, Source
 from .syntax import Program, Span
@@ -87,18 +88,19 @@ class Picture:
 
 @dataclass(frozen=True)
 class View:
-    """A text that the program is asked of, and what it declares; a text that is too long isn't read for that. A view of several files says
-    where its characters come from."""
+    """A text that the program is asked of, and what it declares, which is read once it is wanted; a text that is too long isn't read.
+    A view of several files says where its characters come from."""
 
     source: Source
-    program: Optional[Program] = field(init=False)
-    declarations: Optional[Declarations] = field(init=False)
     is_read: bool = True
 
-    def __post_init__(self) -> None:
-        program = parse(self.source.text) if self.is_read else None
-        object.__setattr__(self, "program", program)
-        object.__setattr__(self, "declarations", Declarations(program) if program else None)
+    @cached_property
+    def program(self) -> Optional[Program]:
+        return parse(self.source.text) if self.is_read else None
+
+    @cached_property
+    def declarations(self) -> Optional[Declarations]:
+        return Declarations(self.program) if self.program else None
 
     def origin(self, offset: int) -> Tuple[Source, int]:
         """The file and its character that a character of the view comes from."""

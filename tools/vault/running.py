@@ -102,7 +102,7 @@ class Running:
 
     def frames(self) -> Tuple[Tuple[str, Place], ...]:
         """The functions that were running when `main` ended, if `vaultq` can tell them."""
-        if self.asker.vaultq is None or self.command != "run":
+        if not self.asker.answers("where") or self.command != "run":
             return ()
         with cleaned_files(self.lists) as names:
             words = ["where", *self.words(names)[1:]]

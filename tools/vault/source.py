@@ -29,15 +29,18 @@ class Source:
 
     name: str
     data: bytes
-    lines: List[str] = field(init=False)
-    starts: List[int] = field(init=False)
+    text: str = field(init=False, repr=False, compare=False)
+    lines: List[str] = field(init=False, repr=False, compare=False)
+    starts: List[int] = field(init=False, repr=False, compare=False)
 
     def __post_init__(self) -> None:
-        lines = [line.decode("utf-8", "replace") for line in self.data.split(b"\n")]
+        text = self.data.decode("utf-8", "replace")
+        lines = text.split("\n")
         starts, at = [], 0
         for line in lines:
             starts.append(at)
             at += len(line) + 1
+        object.__setattr__(self, "text", text)
         object.__setattr__(self, "lines", lines)
         object.__setattr__(self, "starts", starts)
 
@@ -49,10 +52,6 @@ class Source:
                 return Source(name, file.read(MOST_BYTES))
         except OSError:
             return Source(name, b"")
-
-    @property
-    def text(self) -> str:
-        return "\n".join(self.lines)
 
     def line(self, number: int) -> str:
         """The line of this number as it is shown, without its end; empty if there is none."""

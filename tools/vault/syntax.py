@@ -1,21 +1,19 @@
 """What a Vault text consists of: types, declarations, statements and expressions. Each part knows the characters that it takes."""
 from __future__ import annotations
 
-from typing import Iterator, List, Optional, Tuple
+from typing import Iterator, List, NamedTuple, Optional, Tuple
 
 from .records import dataclass, field
 
 
-@dataclass(frozen=True)
-class Span:
+class Span(NamedTuple):
     """The characters from `start` up to `end`."""
 
     start: int
     end: int
 
 
-@dataclass(frozen=True)
-class Name:
+class Name(NamedTuple):
     """A name where it stands."""
 
     text: str

@@ -1,6 +1,7 @@
 """Changes of a text that isn't of the grammar: signs put in or taken out, lines taken out or exchanged, braces as the indentation has them."""
 from __future__ import annotations
 
+from functools import cached_property
 from typing import Iterator, List, Optional
 
 from .picture import Cure, Edit, View
@@ -112,6 +113,7 @@ class TextRepairs:
 
     # ---- braces
 
+    @cached_property
     def depths(self) -> List[int]:
         """How many braces are open at the beginning of each line; one that is closed first on the line is not."""
         found, depth, at = [], 0, 0
@@ -129,8 +131,8 @@ class TextRepairs:
 
     def of_braces(self) -> Iterator[Cure]:
         """Braces where the indentation says that a block ends, or that there is none."""
-        depths = self.depths()
-        width = self.width()
+        depths = self.depths
+        width = self.width
         levels = [self.level(number) for number in range(len(self.lines))]
         for number, (line, depth) in enumerate(zip(self.lines, depths)):
             if not line.strip() or levels[number] == depth * width:
@@ -160,21 +162,22 @@ class TextRepairs:
             at = rest.too_deep()
             if at is None:
                 continue
-            blanks = " " * ((rest.depths()[at] - 1) * rest.width())
+            blanks = " " * ((rest.depths[at] - 1) * rest.width)
             target = self.starts[at if at < number else at + 1]
             edits = (Edit(self.span_of(number), ""), Edit(Span(target, target), f"{blanks}}}\n"))
             yield Cure(f"move this `}}` to line {at + 1}", edits)
 
     def too_deep(self) -> Optional[int]:
         """The first line that the indentation has less deep than the braces."""
-        for number, (line, depth) in enumerate(zip(self.lines, self.depths())):
-            if line.strip() and self.level(number) < depth * self.width():
+        for number, (line, depth) in enumerate(zip(self.lines, self.depths)):
+            if line.strip() and self.level(number) < depth * self.width:
                 return number
         return None
 
+    @cached_property
     def width(self) -> int:
         """How many blanks a block is indented by."""
-        return next((self.level(n) for n, depth in enumerate(self.depths()) if depth == 1 and self.level(n)), 4)
+        return next((self.level(n) for n, depth in enumerate(self.depths) if depth == 1 and self.level(n)), 4)
 
     def without_block(self, number: int, level: int) -> Iterator[Cure]:
         """Lines that are indented as a block, but whose head is missing: without their closing brace, or without all of them."""

@@ -2,7 +2,7 @@
 from __future__ import annotations
 
 from pathlib import Path
-from typing import Sequence
+from typing import Optional, Sequence
 
 from .expected import Ask, Place, expected, in_words, joined, place_of
 from .habits import byte_cure, cure_of
@@ -10,11 +10,23 @@ from .picture import Cure, Edit, Picture, View, Way
 from .report import Limit, ListFault, Report, TextFault, Unread
 from .rules import limit_words
 from .syntax import Span
-from .tokens import Token
+from .tokens import Token, tokens
 
 GRAMMAR = "docs/LANGUAGE.md#grammar"
 LIMITS = "docs/LANGUAGE.md#limits"
 BYTE_ORDER_MARK = "\ufeff"
+MODULES = "divide the program into modules beside an interface, and ask `vault module INTERFACE FILE` of each"
+LIMIT_CURES = {
+    1: MODULES, 3: MODULES, 4: MODULES,
+    5: "declare two state sets, and a type for each",
+    6: "put some of the fields into a struct of their own, which this one owns: `tracked PART part;`",
+    7: "put some of the cases into a variant of their own, which one case carries",
+    8: "let the case own an object that has what it carries: `'A(tracked PART)`",
+    9: "pass an object that has what these parameters pass",
+    10: "divide the function", 11: "divide the function",
+    12: "put what is inside into a function, and call it; give a part of a long expression a variable",
+    13: "ask for smaller budgets: --depth, --heap",
+}  # fmt: skip
 STATUSES = {3: "the reply could not be written", 4: "out of memory"}
 
 
@@ -41,7 +53,8 @@ def words_of(what: str, character: str) -> tuple:
         shown = character if character.isprintable() else f"U+{ord(character):04X}" if character else "this"
         return f"`{shown}` is no character of the language", "no token begins with this", byte_cure(character)
     if what == "number":
-        return "the number is too large", "this is above 9223372036854775807, the greatest number of 64 bits", ""
+        cure = "write a smaller one: a number has 64 bits with a sign; the parts of a greater one stand in two variables"
+        return "the number is too large", "this is above 9223372036854775807, the greatest number of 64 bits", cure
     if what == "comment":
         return "the comment is never closed", "it begins here", "close it by `*/`"
     if what == "end":
@@ -49,9 +62,32 @@ def words_of(what: str, character: str) -> tuple:
     return "the grammar doesn't take this here", "this can't stand here", ""
 
 
-def limit_picture(view: View, fault: Limit) -> Picture:
-    message = f"too many {limit_words(fault.number)}: at most {fault.most:,}"
-    return Picture(view.source, "error", f"limit-{fault.number}", fault.line, message, link=LIMITS)
+OF_GRAMMAR = (4, 5, 6, 7, 8, 9, 12)
+
+
+def limit_place(view: View, fault: Limit, ask: Ask) -> Span:
+    """The token that demands more than a limit of the grammar allows, by halves: the text up to it is refused so, one that ends before isn't."""
+    text = view.source.text
+    found = tokens(text)[:-1]
+    first, last = 0, len(found) - 1
+    while first < last:
+        middle = (first + last) // 2
+        reports = ask(text[: found[middle].end].encode("utf-8", "replace"))
+        is_beyond = bool(reports) and isinstance(reports[0], Limit) and reports[0].number == fault.number
+        first, last = (first, middle) if is_beyond else (middle + 1, last)
+    return Span(found[last].start, found[last].end)
+
+
+def limit_picture(view: View, fault: Limit, ask: Optional[Ask] = None) -> Picture:
+    """The picture of a limit. The program tells no place of it; one of the grammar's is found by asking of shorter texts."""
+    what = limit_words(fault.number)
+    message = f"too many {what}: at most {fault.most:,}"
+    cures = (Cure(LIMIT_CURES[fault.number]),) if fault.number in LIMIT_CURES else ()
+    mark = None
+    if ask is not None and view.is_read and fault.number in OF_GRAMMAR:
+        mark = view.label(limit_place(view, fault, ask), "this goes too deep" if fault.number == 12 else "here is one too many", "fault")
+    source = mark.source if mark else view.source
+    return Picture(source, "error", f"limit-{fault.number}", fault.line, message, mark, cures=cures, link=LIMITS)
 
 
 def list_picture(view: View, fault: ListFault) -> Picture:
@@ -102,8 +138,15 @@ def token_picture(view: View, fault: TextFault, ask: Ask, jobs: int) -> Picture:
     message = f"{found} can't stand here" if len(said) > 3 and fault.place else f"expected {joined(said)}, found {found}"
     span = Span(place.found.start, max(place.found.end, place.found.start + 1)) if fault.place else Span(offset, offset + 1)
     mark = view.label(span, "", "fault")
-    cures = (Cure(cure),) if cure else ()
+    cures = (Cure(cure or what_fits(said, found)),)
     return Picture(mark.source, "error", f"text-{fault.what}", fault.line, message, mark, opened(view, place), (), cures, GRAMMAR)
+
+
+def what_fits(said: Sequence[str], found: str) -> str:
+    """What may stand where something else was found."""
+    if "an expression" in said or "a value" in said:
+        return f"a value is missing before {found}: write one, as `0` or a variable"
+    return f"write {joined(said, 6)} before {found}, or in its place"
 
 
 def missing_picture(view: View, fault: TextFault, place: Place, missing: str) -> Picture:

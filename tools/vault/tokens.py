@@ -2,23 +2,27 @@
 from __future__ import annotations
 
 import re
-from typing import Iterator, List, Tuple
-
-from .records import dataclass
+from typing import Iterator, List, NamedTuple, Tuple
 
 KEYWORDS = (
     "abstract adopt as become bool break case continue else extern false focus if input int into more new open print release "
     "return stateset struct swap switch tracked true variant void while"
 ).split()
 SIGNS = "{ } ( ) [ ] < > , ; : . @ -> = + - * / % ! & | ^ && || == != <= >=".split()
+RESERVED = frozenset(KEYWORDS)
 # what a name is surely longer by; other characters are looked at one by one
 PLAIN_NAME = re.compile("[A-Za-z0-9_]*")
 BLANKS = re.compile("[ \t\r\n]*")
 LONG_SIGNS = tuple(sign for sign in SIGNS if len(sign) == 2)
+# blanks, and a comment or a token of ASCII that no other character can make longer; a group for each kind
+PLAIN = re.compile(
+    r"[ \t\r\n]*(?:([A-Za-z_][A-Za-z0-9_]*)(?![A-Za-z0-9_]|[^\x00-\x7f])|('[A-Za-z_][A-Za-z0-9_]*)(?![A-Za-z0-9_]|[^\x00-\x7f])"
+    r"|([0-9]+)|(//[^\n]*|/\*(?s:.*?)(?:\*/|\Z))|(" + "|".join(re.escape(sign) for sign in sorted(SIGNS, key=len, reverse=True)) + "))"
+)
+PLAIN_KINDS = ("", "name", "tick", "number", "comment", "sign")
 
 
-@dataclass(frozen=True)
-class Token:
+class Token(NamedTuple):
     """A token: its kind (`name`, `keyword`, `tick`, `number`, `sign`, `end` or `other`), and the characters that it takes."""
 
     kind: str
@@ -62,7 +66,7 @@ def read_token(text: str, at: int) -> Token:
     if starts_name(first):
         end = name_end(text, at)
         word = text[at:end]
-        return Token("keyword" if word in KEYWORDS else "name", word, at, end)
+        return Token("keyword" if word in RESERVED else "name", word, at, end)
     if first in "0123456789":
         end = at
         while end < len(text) and text[end] in "0123456789":
@@ -80,18 +84,18 @@ def read_token(text: str, at: int) -> Token:
 def scan(text: str) -> Iterator[Token]:
     """The tokens and comments of a text, in order; a comment is a token of the kind `comment`."""
     at = 0
-    while at < len(text):
-        at = BLANKS.match(text, at).end()
-        if at == len(text):
-            return
-        if text.startswith(("//", "/*"), at):
-            end = comment_end(text, at)
-            yield Token("comment", text[at:end], at, end)
-            at = end
+    while True:
+        met = PLAIN.match(text, at)
+        if met and met.lastindex:
+            word, kind = met.group(met.lastindex), PLAIN_KINDS[met.lastindex]
+            token = Token("keyword" if kind == "name" and word in RESERVED else kind, word, met.start(met.lastindex), met.end())
         else:
+            at = BLANKS.match(text, at).end()
+            if at == len(text):
+                return
             token = read_token(text, at)
-            yield token
-            at = token.end
+        yield token
+        at = token.end
 
 
 def tokens(text: str) -> List[Token]:

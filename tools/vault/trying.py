@@ -5,11 +5,12 @@ The program stops at the first error of a text, or on names and types, so that o
 they have nothing to do with the change: they are in a declaration that it doesn't touch, or about names that it doesn't have."""
 from __future__ import annotations
 
+from functools import cached_property
 from typing import Callable, List, Sequence, Set, Tuple
 
 from .ask import Reply
 from .edits import apply, changed_parts, moved
-from .parser import NotGrammar, Parser
+from .parser import NotGrammar, Parser, parse
 from .picture import Cure, Edit, View
 from .records import dataclass, replace
 from .report import Accepted, KeyFault, Report, RuleFault, TextFault
@@ -59,6 +60,17 @@ class Trial:
             replace(cure, tested=True) if is_good else replace(cure, edits=()) for cure, is_good in zip(cures, good)
         )
 
+    def is_grammar(self, edits: Sequence[Edit]) -> bool:
+        """Whether the parser of this package takes the changed text. Of one that it took before it reads the declarations that are changed,
+        since those beside them are as they were."""
+        text = self.view.source.text
+        declarations = self.view.program.declarations if self.view.program else ()
+        first, last = min((edit.span.start for edit in edits), default=0), max((edit.span.end for edit in edits), default=0)
+        start = max((one.span.end for one in declarations if one.span.end < first), default=0)
+        rest = len(text) - min((one.span.start for one in declarations if one.span.start > last), default=len(text))
+        changed = apply(text, edits)
+        return parse(changed[start : len(changed) - rest]) is not None
+
     def is_cured(self, fault: Report, edits: Sequence[Edit]) -> bool:
         """Whether the program no longer has this fault of the changed text, and no other that comes of the change."""
         text = apply(self.view.source.text, edits)
@@ -72,15 +84,26 @@ class Trial:
 
 
 class Changed:
-    """A changed text, and which of its errors don't come of the change."""
+    """A changed text, and which of its errors don't come of the change. It is read only if the program finds errors in it."""
 
     def __init__(self, trial: Trial, fault: Report, edits: Sequence[Edit], text: str) -> None:
         self.trial = trial
         self.fault = fault
         self.edits = edits
-        self.view = View(Source(trial.view.source.name, text.encode("utf-8", "replace")))
+        self.text = text
         self.parts = changed_parts(edits)
-        self.words = self.words_of_edits()
+
+    @cached_property
+    def source(self) -> Source:
+        return Source(self.trial.view.source.name, self.text.encode("utf-8", "replace"))
+
+    @cached_property
+    def view(self) -> View:
+        return View(self.source)
+
+    @cached_property
+    def words(self) -> Set[str]:
+        return self.words_of_edits()
 
     def words_of_edits(self) -> Set[str]:
         """The tokens that are put in or taken out; of a change of blocks all of them. A declaration that isn't changed in its body alone is one
@@ -110,13 +133,13 @@ class Changed:
 
     def is_worth_asking(self) -> bool:
         """Whether the parser of this package takes the text, or at least more of it than before."""
-        if self.view.program is not None or not isinstance(self.fault, TextFault):
-            return self.view.program is not None
-        parser = Parser(self.view.source.text)
+        if not isinstance(self.fault, TextFault):
+            return self.trial.is_grammar(self.edits)
+        parser = Parser(self.text)
         try:
             parser.program()
         except NotGrammar as error:
-            return self.is_later_text(TextFault("", "token", self.view.source.place(error.at)))
+            return self.is_later_text(TextFault("", "token", self.source.place(error.at)))
         except RecursionError:
             return False
         return True
@@ -137,18 +160,18 @@ class Changed:
 
     def is_later_text(self, fault: TextFault) -> bool:
         """Whether a text is refused only behind the change: where the change is of signs alone, or a whole declaration lies between."""
-        offset = len(self.view.source.text) if fault.place is None else self.view.offset(fault.place)
+        offset = len(self.text) if fault.place is None else self.source.offset(fault.place)
         last = max(part.end for part in self.parts)
         if offset <= last:
             return False
         if self.is_of_doubles(anywhere=True):
             return True
         if self.is_of_signs():
-            return self.view.source.text.count("\n", last, offset) > 0
+            return self.text.count("\n", last, offset) > 0
         return self.has_whole_declaration(last, offset)
 
     def has_whole_declaration(self, start: int, end: int) -> bool:
-        parser = Parser(self.view.source.text)
+        parser = Parser(self.text)
         try:
             while parser.token.start < end:
                 first = parser.token

@@ -33,6 +33,7 @@ TYPES = """\
 <?xml version="1.0" encoding="utf-8"?>
 <Types xmlns="http://schemas.openxmlformats.org/package/2006/content-types">
   <Default Extension=".json" ContentType="application/json" />
+  <Default Extension=".js" ContentType="application/javascript" />
   <Default Extension=".vsixmanifest" ContentType="text/xml" />
 </Types>
 """
@@ -57,7 +58,7 @@ def pack(folder: Path) -> bytes:
     """The extension in a folder: the same bytes for the same files."""
     said = json.loads((folder / "package.json").read_text(encoding="utf-8"))
     parts = {"extension.vsixmanifest": manifest(said).encode("utf-8"), "[Content_Types].xml": TYPES.encode("utf-8")}
-    for file in sorted(it for it in folder.glob("**/*.json") if it.name != "tasks.json"):
+    for file in sorted(it for it in folder.glob("**/*.js*") if it.name != "tasks.json"):
         parts[f"extension/{file.relative_to(folder).as_posix()}"] = file.read_bytes()
     buffer = io.BytesIO()
     with zipfile.ZipFile(buffer, "w", zipfile.ZIP_DEFLATED) as packed:

@@ -25,7 +25,7 @@ code, pre { font: .9rem/1.5 ui-monospace, monospace; tab-size: 8; }
 article { border-top: 1px solid var(--line); margin-top: 1.5rem; }
 .where { color: var(--dim); margin: 0 0 .6rem; }
 .beside { display: grid; grid-template-columns: minmax(0, 3fr) minmax(15em, 2fr); gap: 1rem; align-items: start; }
-@media (max-width: 50em) { .beside { grid-template-columns: minmax(0, 1fr); } }
+h2 code, h3 code { font-weight: 600; }
 .source { background: var(--shade); border: 1px solid var(--line); border-radius: .4rem; overflow-x: auto; }
 .source pre { margin: 0; padding: .2rem 0; } .source summary { color: var(--dim); padding: 0 .6rem; cursor: pointer; }
 .line { display: block; padding-right: .6rem; border-left: .25rem solid transparent; } .line:target { outline: 2px solid var(--step); }
@@ -35,10 +35,15 @@ mark { background: none; color: inherit; text-decoration: underline wavy; text-u
 mark.fault { text-decoration-color: var(--fault); } mark.step { text-decoration-color: var(--step); }
 mark.note { text-decoration-color: var(--note); }
 .key { color: var(--key); } .number { color: var(--number); } .comment { color: var(--dim); font-style: italic; }
+h3 { font-size: 1rem; margin: .8rem 0 .2rem; } .beside h3:first-child { margin-top: 0; }
 .said { margin: 0; padding-left: 2em; } .said li { margin-bottom: .4rem; }
 .said .fault { color: var(--fault); font-weight: 600; } .said .step { color: var(--step); } .said .note { color: var(--note); }
-.said h3 { font-size: 1rem; margin: .6rem 0 .2rem -2em; }
 .cure { border-left: .25rem solid var(--note); padding-left: .6rem; } .ok { color: var(--note); }
+@media (max-width: 50em) {
+  .beside { grid-template-columns: minmax(0, 1fr); } .said { padding-left: 1.4em; }
+  .line { white-space: pre-wrap; overflow-wrap: anywhere; padding-left: 2.6em; text-indent: -2.6em; }
+  .n { width: 2.6em; padding-right: .6em; text-indent: 0; }
+}
 """
 CLASSES = {"keyword": "key", "number": "number", "tick": "number", "comment": "comment"}
 
@@ -138,6 +143,7 @@ class Page:
             out += [f"<h3>{prose(way.title[:1].upper() + way.title[1:])}</h3>"] if way.title else []
             out += ['<ol class="said">', *(self.item(label) for label in way.labels), "</ol>"] if way.labels else []
         if self.picture.fault:
+            out += ["<h3>And here:</h3>"] if any(one.title for one in self.picture.ways if one.is_path) else []
             out += ['<ul class="said">', self.item(self.picture.fault), "</ul>"]
         for way in [one for one in self.picture.ways if not one.is_path]:
             out += ['<ul class="said">', *(self.item(label) for label in way.labels), "</ul>"] if way.labels else []

@@ -10,6 +10,7 @@ from ..ask import Asker, Reply
 from ..declarations import Declarations
 from ..held import Table
 from ..picture import Picture, View
+from ..probes import held_before
 from ..records import dataclass
 from ..scope import Scope, scope_at
 from ..tokens import KEYWORDS
@@ -125,9 +126,13 @@ def hover(document: Document, asker: Asker, offset: int) -> Optional[Dict[str, A
         outer = outer_declaration(document, found[0].text)
         parts += [f"```vault\n{outer[1]}\n```"] if outer else []
     scope = scope_at(names.declarations, offset) if names else None
-    if scope and scope.statement and asker.vaultq:
+    if scope and scope.statement and asker.answers("keys"):
         text = held_at(document, document.tables(asker), scope.function.name.text, scope.statement.span.start)
         parts.append(f"held before this statement: {text}" if text else "no path comes to this statement")
+    elif scope and scope.statement and asker.answers("faults") and document.interface is None:
+        path = str(document.path)
+        held = written(held_before(document.view, lambda data: asker.places(path, data), scope.statement.span.start))
+        parts += [f"held before this statement: {held}"] if held else []
     parts += cures_at(document, asker, offset)
     return {"contents": {"kind": "markdown", "value": "\n\n".join(parts)}} if parts else None
 

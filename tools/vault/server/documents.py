@@ -2,7 +2,6 @@
 from __future__ import annotations
 
 import urllib.parse
-from concurrent.futures import ThreadPoolExecutor
 from pathlib import Path
 from typing import Any, Dict, List, Optional
 
@@ -36,6 +35,7 @@ class Document:
     version: int = 0
     interface: Optional[Source] = None
     _data: Optional[bytes] = field(default=None, repr=False)
+    _source: Optional[Source] = field(default=None, repr=False)
     _view: Optional[View] = field(default=None, repr=False)
     _errors: Optional[List[Picture]] = field(default=None, repr=False)
     _pictures: Optional[List[Picture]] = field(default=None, repr=False)
@@ -64,11 +64,24 @@ class Document:
         return self.interface is not None and self.interface.name != str(self.path)
 
     @property
+    def source(self) -> Source:
+        """The text with its lines."""
+        if self._source is None:
+            self._source = Source(str(self.path), self.data)
+        return self._source
+
+    @property
     def view(self) -> View:
         """The text with what it declares; of a large one the text alone."""
         if self._view is None:
-            self._view = View(Source(str(self.path), self.data), not self.is_large)
+            self._view = View(self.source, not self.is_large)
         return self._view
+
+    def last_good(self) -> Optional["Document"]:
+        """The text as it is now, if it was judged since the last change and is of the grammar."""
+        if self._errors is None or any(it.rule.startswith(("text-", "limit-", "read")) for it in self._errors):
+            return None
+        return Document(self.uri, self.text, self.version, _view=self._view)
 
     @property
     def outer(self) -> Optional[View]:
@@ -84,7 +97,7 @@ class Document:
     def change(self, text: str, version: int) -> None:
         """Puts another text in its place."""
         self.text, self.version = text, version
-        self._data = self._view = None
+        self._data = self._source = self._view = None
         self.forget()
 
     def put_beside(self, interface: Optional[Source]) -> None:
@@ -119,11 +132,7 @@ class Document:
         data = self.data or b"\n"
         if self.interface is not None:
             return modules.judge_texts(asker, self.interface, self.view.source, wishes).pictures
-        with ThreadPoolExecutor(1) as pool:
-            # the text is read while the program judges it
-            asked = pool.submit(asker.faults, str(self.path), data)
-            view = self.view
-            return pictures_of(view, asked.result(), asker, wishes, data)
+        return pictures_of(self.view, asker.faults(str(self.path), data), asker, wishes, data)
 
     def large_errors(self, asker: Asker) -> List[Picture]:
         """The first error of a large text in the program's own words."""
@@ -152,7 +161,7 @@ class Document:
 
     def offset(self, position: Dict[str, int]) -> int:
         """The number of the character at a position of the protocol."""
-        source = self.view.source
+        source = self.source
         number = min(max(position["line"], 0), len(source.lines) - 1)
         line, at = source.lines[number], 0
         left = position["character"]
@@ -163,7 +172,7 @@ class Document:
 
     def position(self, offset: int) -> Dict[str, int]:
         """The position of a character."""
-        source = self.view.source
+        source = self.source
         place = source.place(min(offset, len(self.text)))
         start = source.starts[place.line - 1]
         return {"line": place.line - 1, "character": units(source.lines[place.line - 1][: offset - start])}

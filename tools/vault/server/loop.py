@@ -11,7 +11,7 @@ from .. import ask, setups, sources
 from ..ask import Asker
 from ..errors import NoProgram, Problem
 from ..programs import Answer, Program
-from ..records import dataclass
+from ..records import dataclass, replace
 from ..source import Source
 from . import answers, errors_shown
 from .documents import Document
@@ -179,7 +179,8 @@ class Server:
         """The programs that are asked. None is compiled here, since that takes minutes."""
         if self.asker is None:
             found = ask.find()
-            self.asker = Asker(timed(found.vaultc, self.longest), timed(found.vaultq, self.longest))  # type: ignore[arg-type]
+            vaultc, vaultq = timed(found.vaultc, self.longest), timed(found.vaultq, self.longest)
+            self.asker = replace(found, vaultc=vaultc, vaultq=vaultq)  # type: ignore[arg-type]
         return self.asker
 
     def tell(self, problem: Problem) -> None:
@@ -233,8 +234,9 @@ class Server:
 
     def change(self, params: Any) -> None:
         document = self.document(params)
-        if document.view.declarations is not None:
-            self.good[document.uri] = Document(document.uri, document.text)
+        good = document.last_good()
+        if good is not None:
+            self.good[document.uri] = good
         for change in params["contentChanges"]:
             text = change["text"]
             if "range" in change:

@@ -15,7 +15,7 @@ class Drawing(unittest.TestCase):
 
     def test_the_drawing_of_readme(self) -> None:
         programs.take("vaultc")
-        if take().vaultq is None:
+        if not take().answers("keys"):
             self.skipTest("there is no vaultq")
         words = ["check", "examples/lock_kept.v"]
         made = drawing.drawing(drawing.shown(words), "vault " + " ".join(words))

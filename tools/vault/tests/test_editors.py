@@ -21,7 +21,8 @@ from .golden import judged
 from .test_server import INTERFACE, MODULE, PATIENCE
 
 EDITORS = paths.TOP / "editors"
-SESSION = Path(__file__).parent / "editors" / "session.lua"
+SESSIONS = Path(__file__).parent / "editors"
+VAULT = paths.TOP / "bin" / "vault"
 
 
 class Neovim(unittest.TestCase):
@@ -43,7 +44,7 @@ class Neovim(unittest.TestCase):
     def session(self, file: Path, module: Path) -> List[str]:
         seen = self.top / "seen"
         cache = str(paths.cache().parent)
-        self.nvim("-c", f"luafile {SESSION}", SEEN=str(seen), FILE=str(file), MODULE=str(module), XDG_CACHE_HOME=cache)
+        self.nvim("-c", f"luafile {SESSIONS / 'session.lua'}", SEEN=str(seen), FILE=str(file), MODULE=str(module), XDG_CACHE_HOME=cache)
         return seen.read_text(encoding="utf-8").split("\n")
 
     def test_a_session(self) -> None:
@@ -61,7 +62,7 @@ class Neovim(unittest.TestCase):
         self.assertIn("first lines // first||stateset latch { loose, shut }", seen)
         self.assertIn("cure insert start(d); before this brace", seen)
         self.assertNotIn("waited in vain", seen)
-        if take().vaultq:
+        if take().answers("keys"):
             self.assertIn("hint 13 L@shut", seen)
 
     def test_a_new_file_beside_vault_json_is_vaults(self) -> None:
@@ -101,12 +102,59 @@ class Vim(unittest.TestCase):
         self.assertEqual(self.filetype("disk.vi", "abstract disk;\n", False), "vault")
 
 
-class OtherEditors(unittest.TestCase):
+class VsCode(unittest.TestCase):
+    """The extension over a stand-in for the editor, and how it is packed."""
+
+    def session(self) -> List[str]:
+        if shutil.which("node") is None:
+            self.skipTest("node isn't installed")
+        take()
+        with tempfile.TemporaryDirectory() as folder:
+            file, other = Path(folder) / "lock_kept.v", Path(folder) / "two.v"
+            shutil.copyfile(paths.TOP / "examples" / "lock_kept.v", file)
+            shutil.copyfile(paths.TOP / "examples" / "point.v", other)
+            words = ["node", SESSIONS / "session.js", EDITORS / "vscode", VAULT, PATIENCE, file, other]
+            streams = {"stdin": subprocess.DEVNULL, "stdout": subprocess.PIPE}
+            done = subprocess.run([str(word) for word in words], check=True, timeout=PATIENCE, **streams)
+        return done.stdout.decode("utf-8").splitlines()
+
+    def test_what_the_server_says_reaches_the_editor(self) -> None:
+        seen = [line for line in self.session() if not line.startswith("hint ")]
+        error = "`pay` ends with `a` in state `shut`, but its clause promises `loose`"
+        self.assertEqual(seen[0], f"error 15:9 severity 0 vault protocol docs/LANGUAGE.md#keys {error}")
+        self.assertEqual(seen[1], "related 12:44 the clause of `pay` promises this of `a`")
+        self.assertIn("related 14:5 the condition is true", seen)
+        self.assertTrue(any(re.match(r"hover .*cure: `unlock\(a\);` before this `return`$", line) for line in seen), seen)
+        found = [
+            "definition 6:6", "references 6", "highlights 6", "completion cents/4", "renamed 6",
+            "symbols latch/9 account/22 acquire/11 unlock/11 pay/11 main/11",
+            "refused the renamed text would be refused: text token 3:9",
+            "action insert unlock(a); before this return quickfix true for 1",
+            "layout // first||stateset latch { loose, s", "language vault", "without a server null",
+        ]  # fmt: skip
+        self.assertEqual([line for line in found if line not in seen], [])
+        self.assertEqual([line for line in seen if line.startswith("errors ")], ["errors 1", "errors 0", "errors 0", "errors 0"])
+        (told,) = [line for line in seen if line.startswith("told ")]
+        self.assertRegex(told, "^told /no/such/program lsp: .*ENOENT; the setting vault.command says which program is started$")
+
+    def test_held_keys_are_hints(self) -> None:
+        if not take().answers("keys"):
+            self.skipTest("there is no vaultq")
+        self.assertIn("hint 13 L@shut", self.session())
+
     def test_files_of_vs_code_are_json(self) -> None:
         for file in [*EDITORS.glob("vscode/*.json"), *EDITORS.glob("vscode/syntaxes/*.json")]:
             json.loads(file.read_text(encoding="utf-8"))
 
-    def test_the_extension_of_vs_code_is_packed(self) -> None:
+    def test_the_extension_needs_no_package(self) -> None:
+        """It is under 300 lines over the editor's own module and those of Node."""
+        files = sorted((EDITORS / "vscode").glob("*.js"))
+        text = "".join(file.read_text(encoding="utf-8") for file in files)
+        self.assertLess(text.count("\n"), 300)
+        self.assertEqual(set(re.findall(r'require\("([^"]+)"\)', text)), {"vscode", "./client", "fs", "path", "child_process"})
+        self.assertNotIn("dependencies", json.loads((EDITORS / "vscode" / "package.json").read_text(encoding="utf-8")))
+
+    def test_the_extension_is_packed(self) -> None:
         with tempfile.TemporaryDirectory() as folder:
             self.assertEqual(cli.main(["package", "--vsix", "--to", folder]), 0)
             (file,) = Path(folder).iterdir()
@@ -119,8 +167,9 @@ class OtherEditors(unittest.TestCase):
         identity = next(it for it in manifest.iter() if it.tag.endswith("}Identity"))
         self.assertEqual((identity.get("Id"), identity.get("Publisher")), (said["name"], said["publisher"]))
         self.assertTrue(said["version"].startswith((paths.TOP / "VERSION").read_text(encoding="utf-8").strip()))
-        for part in [*said["contributes"]["grammars"], {"path": said["contributes"]["languages"][0]["configuration"]}]:
-            self.assertIn("extension/" + part["path"][2:], names)
+        has = said["contributes"]
+        for part in (has["grammars"][0]["path"], has["languages"][0]["configuration"], said["main"], "./client.js"):
+            self.assertIn("extension/" + part[2:], names)
 
     def test_the_problem_matcher_reads_the_lines_of_gcc(self) -> None:
         programs.take("vaultc")
@@ -132,17 +181,75 @@ class OtherEditors(unittest.TestCase):
             self.assertIsNotNone(met, line)
             self.assertEqual(met.group(pattern["file"]), "lock_kept.v")
 
+
+class OtherEditors(unittest.TestCase):
     def test_each_editor_is_set_up_in_five_lines(self) -> None:
         text = (EDITORS / "README.md").read_text(encoding="utf-8")
         for name in ("Neovim", "Vim", "Emacs", "Helix", "VS Code"):
             block = text.partition(f"**{name}**")[2].partition("```\n")[2].partition("```")[0]
             self.assertTrue(0 < len(block.splitlines()) <= 5, name)
 
-    def test_emacs_reads_its_mode(self) -> None:
+
+class Emacs(unittest.TestCase):
+    """Emacs without a window; the language server by eglot, which is a package of its own before Emacs 29."""
+
+    def setUp(self) -> None:
         if shutil.which("emacs") is None:
             self.skipTest("emacs isn't installed")
-        words = ["emacs", "--batch", "-L", str(EDITORS / "emacs"), "-l", "vault-mode", "--eval", "(with-temp-buffer (vault-mode))"]
-        subprocess.run(words, check=True)
+        folder = tempfile.TemporaryDirectory()
+        self.addCleanup(folder.cleanup)
+        self.top = Path(folder.name)
+
+    def emacs(self, *words: str, **environment: str) -> str:
+        command = ["emacs", "--batch", "-L", str(EDITORS / "emacs"), "-l", "vault-mode", *words]
+        streams = {"stdin": subprocess.DEVNULL, "stdout": subprocess.PIPE, "stderr": subprocess.PIPE}
+        done = subprocess.run(command, env={**os.environ, **environment}, timeout=PATIENCE, check=True, **streams)
+        return done.stdout.decode("utf-8")
+
+    def mode(self, name: str, text: str) -> str:
+        """The mode of a file that has this text; of a new one if it has none."""
+        file = self.top / name
+        if text:
+            file.write_text(text, encoding="utf-8")
+        return self.emacs(str(file), "--eval", "(princ major-mode)")
+
+    def test_which_files_are_vaults(self) -> None:
+        self.assertEqual(self.mode("one.v", "// vault\n"), "vault-mode")
+        self.assertEqual(self.mode("two.v", "stateset power { off, on }\n"), "vault-mode")
+        self.assertEqual(self.mode("disk.vi", "abstract disk;\n"), "vault-mode")
+        self.assertEqual(self.mode("three.v", MODULE), "vault-mode")
+        self.assertNotEqual(self.mode("other.v", "module adder(input a, output b);\nendmodule\n"), "vault-mode")
+        (self.top / "vault.json").write_text("{}", encoding="utf-8")
+        self.assertEqual(self.mode("new.v", ""), "vault-mode")
+
+    def test_a_session(self) -> None:
+        if "t" not in self.emacs("--eval", "(princ (and (require 'eglot nil t) t))"):
+            self.skipTest("eglot isn't installed")
+        take()
+        file, module, seen = self.top / "lock_kept.v", self.top / "disk.v", self.top / "seen"
+        shutil.copyfile(paths.TOP / "examples" / "lock_kept.v", file)
+        module.write_text(MODULE, encoding="utf-8")
+        (self.top / "disk.vi").write_text(INTERFACE, encoding="utf-8")
+        self.emacs("-l", str(SESSIONS / "session.el"), SEEN=str(seen), FILE=str(file), MODULE=str(module), VAULT=str(VAULT))
+        lines = seen.read_text(encoding="utf-8").split("\n")
+        # before the cure it says what is held, if there is a vaultq
+        lines = [re.sub(r"^hover .*cure:", "hover cure:", line) for line in lines]
+        self.assertEqual(
+            lines,
+            [
+                "mode vault-mode",
+                "error 15:9 vault [protocol]: `pay` ends with `a` in state `shut`, but its clause promises `loose`",
+                "keyword font-lock-keyword-face",
+                "hover cure: `unlock(a);` before this `return`",
+                "cure insert unlock(a); before this return",
+                "errors left 0",
+                "first lines // first||stateset latch { loose, shut }|",
+                "mode vault-mode",
+                "error 3:1 vault [protocol]: `restart` ends with `d` in state `off`, but its clause promises `on`",
+                "cure insert start(d); before this brace",
+                "errors left 0",
+            ],
+        )
 
 
 if __name__ == "__main__":

@@ -4,10 +4,13 @@ from __future__ import annotations
 import unittest
 
 from vault import ask
-from vault.expected import KINDS, expected, in_words, joined, place_of
+from vault.expected import KINDS, abridged, expected, in_words, is_taken, joined, place_of
+from vault.parser import parse
+from vault.paths import TOP
 from vault.picture import View
 from vault.report import TextFault
 from vault.source import Source
+from vault.tokens import Token, tokens
 
 from .golden import MISTAKES
 
@@ -26,6 +29,33 @@ TEXTS = {
     "void f() [K@] { }": "`{`, `(` or a name",
     "void f() { focus b tracked(B) one { } }": "`as`",
 }
+
+
+class Abridged(unittest.TestCase):
+    def test_complete_statements_are_left_out(self) -> None:
+        before = "void f() { int n = 1; tracked(K) p q = new p { x: 1 }; if (n > 1) { n = 2; } else { while (n > 0) { n = 3; switch (v) { "
+        cases = {
+            "": "void f() { if (n > 1) { } else { while (n > 0) { switch (v) {",
+            "case 'A: { g(1); } case 'B(x): { n =": "void f() { if (n > 1) { } else { while (n > 0) { switch (v) { case 'B(x): { n =",
+            "case 'A: { } } } if (n) { n = 4; }": "void f() { if (n > 1) { } else { if (n) { }",
+            "} } } return n;": "void f() { return n;",
+        }
+        for more, left in cases.items():
+            with self.subTest(more):
+                found = abridged(tokens(before + more)[:-1])
+                self.assertEqual([token.text for token in found], [token.text for token in tokens(left)[:-1]])
+
+    def test_what_is_likely_is_the_same(self) -> None:
+        for file in sorted((TOP / "examples").glob("*.v")):
+            found = tokens(file.read_text(encoding="utf-8"))[:-1]
+            text = " ".join(token.text for token in found)
+            parsed = parse(text)
+            self.assertEqual(parsed is None, file.name == "unfinished.v")
+            for span in [one.span for one in parsed.declarations] if parsed else []:
+                inside = [token for token in tokens(text) if span.start <= token.start < span.end]
+                for number in range(1, len(inside), 7):
+                    sentinel = Token(inside[number].kind, inside[number].text, len(text) + 1, len(text) + 2)
+                    self.assertEqual(is_taken(abridged(inside[:number]), sentinel), is_taken(inside[:number], sentinel))
 
 
 class Expected(unittest.TestCase):

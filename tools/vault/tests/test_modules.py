@@ -10,13 +10,14 @@ import unittest
 from pathlib import Path
 from typing import Dict, List
 
-from vault.forms import text
+from vault.forms import gcc, json_form, page, sarif, text
 from vault.judge import Judged, Wishes
 from vault.modules import join, judge_module
 from vault.paths import TOP
 from vault.source import Source
 
 from .golden import WIDTH, GoldenCase, asker, folder
+from .schema import sarif_schema
 
 INTERFACE = "examples/modules/interface.v"
 MODULES = {
@@ -42,8 +43,24 @@ class Modules(GoldenCase):
 
     def test_pictures(self) -> None:
         found = self.judge(MODULES)
+        pictures = [picture for one in found for picture in one.pictures]
         self.assert_golden("modules.txt", "".join(text.write(one.pictures, text.Style(WIDTH)) + "\n" for one in found))
+        self.assert_golden("modules.gcc", gcc.write(pictures))
+        self.assert_golden("modules.json", json_form.write(found))
+        self.assert_golden("modules.sarif", sarif.write(found))
+        self.assert_golden("modules.html", page.write(pictures))
         self.assertEqual([one.status for one in found], [7, 7, 7, 6, 8, 7])
+
+    def test_places_of_both_files_are_in_sarif(self) -> None:
+        document = json.loads(sarif.write(self.judge({"has_another_head.v": MODULES["has_another_head.v"]})))
+        self.assertEqual(sarif_schema().faults(document), [])
+        (result,) = document["runs"][0]["results"]
+        files = [
+            [one["physicalLocation"]["artifactLocation"]["uri"] for one in result[part]] for part in ("locations", "relatedLocations")
+        ]
+        self.assertEqual(files, [["has_another_head.v"], ["interface.v"]])
+        (region,) = [one["physicalLocation"]["region"] for one in result["relatedLocations"]]
+        self.assertEqual(region, {"startLine": 4, "startColumn": 8, "endColumn": 49})
 
     def test_a_good_module(self) -> None:
         taken = asker()

@@ -16,11 +16,32 @@ from vault.forms import gcc, json_form, page, sarif, text
 from vault.judge import Judged
 from vault.paths import TOP
 from vault.picture import Picture
+from vault.rules import all_rules
 
 from .golden import GOLDEN, MISTAKES, WIDTH, GoldenCase, judged
 from .schema import sarif_schema
 
 STYLE = text.Style(WIDTH)
+# the rules that programs can break; others are on modules
+ON_PROGRAMS = 46
+REFUSED_TEXTS = {
+    "text_token.v": b"void main() {\n    int n = ;\n}\n",
+    "text_missing.v": b"void main() {\n    int n = 1\n}\n",
+    "text_end.v": b"void main() {\n    print(1);\n",
+    "text_byte.v": b"void main() {\n    print(1 ? 2 : 3);\n}\n",
+    "text_utf8.v": b"// caf\xe9\nvoid main() {\n}\n",
+    "text_mark.v": b"\xef\xbb\xbfvoid main() {\n}\n",
+    "text_number.v": b"void main() {\n    print(9223372036854775808);\n}\n",
+    "text_comment.v": b"void main() {\n}\n/* the end\n",
+    "limit_5.v": b"stateset many { " + b", ".join(b"s%d" % number for number in range(33)) + b" }\nvoid main() {\n}\n",
+    "limit_6.v": b"struct many {\n" + b"".join(b"    int f%d;\n" % number for number in range(33)) + b"}\nvoid main() {\n}\n",
+}
+# a fault of each form: held, absent, lent, a state, an owning variable that is full or empty, at a step, at an end, where paths meet
+KEY_FAULTS = (
+    "c01_leak.v", "c02_released_twice.v", "c06_wrong_state.v", "c07_released_on_one_path.v", "c08_lock_kept.v", "c10_clause_missing.v",
+    "c13_released_in_a_loop.v", "c17_region_gone.v", "c18_lent_to_a_focus.v", "c21_owning_variable_used_twice.v",
+    "c22_owning_variable_not_released.v", "c33_acquired_twice.v",
+)  # fmt: skip
 SHOWN = ["released_on_one_way.v", "lock_kept.v", "radio_started.v", "unfinished.v", "point.v"]
 
 
@@ -70,7 +91,7 @@ class Mistakes(GoldenCase):
                 self.assertEqual(picture.severity, "error")
                 self.assertTrue(picture.message)
                 self.assertIsNotNone(picture.fault)
-                self.assertTrue(picture.cures or picture.rule == "text-number", picture.message)
+                self.assertTrue(picture.cures, picture.message)
 
     def test_edits_are_within_the_text(self) -> None:
         for one in self.files:
@@ -78,6 +99,50 @@ class Mistakes(GoldenCase):
                 for edit in cure.edits:
                     self.assertLessEqual(edit.span.start, edit.span.end)
                     self.assertLessEqual(edit.span.end, len(one.source.text))
+
+
+class Kinds(GoldenCase):
+    """One refusal of each kind in each form: all rules on programs, by their wrong programs in docs/RULES.md; texts, limits, a file that
+    can't be read; faults on keys at steps and where paths meet."""
+
+    files: List[Judged] = []
+
+    @classmethod
+    def setUpClass(cls) -> None:
+        with tempfile.TemporaryDirectory() as name:
+            where = Path(name)
+            written = {f"rule_{number:02}.v": rule.programs[0].encode() for number, rule in all_rules().items() if number <= ON_PROGRAMS}
+            written.update(REFUSED_TEXTS)
+            for file in KEY_FAULTS:
+                written[file] = (MISTAKES / file).read_bytes()
+            for file, data in written.items():
+                (where / file).write_bytes(data)
+            cls.files = judged([*sorted(written), "no_file.v"], where)
+
+    def test_each_kind_is_there(self) -> None:
+        found = {picture.rule for picture in pictures(self.files)}
+        wanted = {f"rule-{number}" for number in range(1, ON_PROGRAMS + 1)} | {"protocol", "read", "limit-5", "limit-6"}
+        wanted |= {f"text-{what}" for what in ("token", "end", "byte", "number", "comment", "utf8")}
+        self.assertEqual(found, wanted)
+        self.assertEqual([one.source.name for one in self.files if len(one.pictures) != 1], [])
+
+    def test_text(self) -> None:
+        self.assert_golden("kinds.txt", shown(self.files))
+
+    def test_gcc(self) -> None:
+        self.assert_golden("kinds.gcc", gcc.write(pictures(self.files)))
+
+    def test_sarif(self) -> None:
+        self.assert_golden("kinds.sarif", sarif.write(self.files))
+
+    def test_json(self) -> None:
+        self.assert_golden("kinds.json", json_form.write(self.files))
+
+    def test_html(self) -> None:
+        self.assert_golden("kinds.html", page.write(pictures(self.files)))
+
+    def test_sarif_fits_the_schema(self) -> None:
+        self.assertEqual(sarif_schema().faults(json.loads(sarif.write(self.files))), [])
 
 
 class Gcc(unittest.TestCase):
@@ -248,7 +313,10 @@ class Html(unittest.TestCase):
 
     def test_a_phone_has_one_column_and_no_page_to_scroll_sideways(self) -> None:
         self.assertIn('<meta name="viewport" content="width=device-width, initial-scale=1">', self.written)
-        self.assertIn("@media (max-width: 50em) { .beside { grid-template-columns: minmax(0, 1fr); } }", page.STYLE)
+        narrow = page.STYLE.partition("@media (max-width: 50em) {")[2]
+        self.assertIn(".beside { grid-template-columns: minmax(0, 1fr); }", narrow)
+        # long lines go on below, so that each mark is seen
+        self.assertIn(".line { white-space: pre-wrap;", narrow)
         self.assertIn("overflow-x: auto", page.STYLE)
         # nothing is wider than a window of 20em, but the grid of wide windows
         widths = [float(width) for width in re.findall(r"(?<!max-)width: ([\d.]+)em", page.STYLE)]

@@ -150,15 +150,15 @@ class Costs(unittest.TestCase):
 
     def test_errors_on_keys_take_two(self) -> None:
         taken = ask.take()
-        if taken.vaultq is None:
-            self.skipTest("there is no vaultq")
+        if not taken.answers("keys"):
+            self.skipTest("no vaultq answers keys")
         asker = Asker(self.counted(taken.vaultc), self.counted(taken.vaultq))
         for file in sorted(MISTAKES.glob("c*.v"))[::5]:
             self.assertEqual(self.questions(file.name, asker), 2, file.name)
 
 
 class SecondPlaces(unittest.TestCase):
-    """What the tables of `vaultq keys` say is what probes of `vaultc check` say."""
+    """What is said over `vaultq`, by its tables of keys if it has them, is what probes of `vaultc check` say."""
 
     def both(self, names: List[str]) -> List[Tuple[Judged, Judged]]:
         taken = ask.take()
@@ -188,8 +188,8 @@ class SecondPlaces(unittest.TestCase):
 class LostStates(unittest.TestCase):
     def test_a_bare_clause_that_loses_a_state_is_warned_of(self) -> None:
         asker = ask.take()
-        if asker.vaultq is None:
-            self.skipTest("there is no vaultq")
+        if not asker.answers("keys"):
+            self.skipTest("no vaultq answers keys")
         with folder(TOP):
             found = judge(str(MISTAKES / "c20_state_lost_by_bare_clause.v"), asker, Wishes(lint=True, cures=False))
         self.assertIn("lint-lost-state", [one.rule for one in found.pictures])

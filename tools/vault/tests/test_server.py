@@ -12,10 +12,12 @@ from pathlib import Path
 from typing import Any, Dict, List, Optional
 
 from vault import paths, programs
-from vault.ask import Asker, take
+from vault.ask import take
 from vault.server import answers
 from vault.server.documents import MOST_BYTES, Document, units
 from vault.server.loop import LONGEST, REST, Server
+
+from .large import counted, small_functions, spent
 
 VAULT = paths.TOP / "bin" / "vault"
 EXAMPLES = paths.TOP / "examples"
@@ -26,7 +28,7 @@ MODULE = "void restart(tracked(K) disk d) [K@on] {\n    stop(d);\n}\n"
 
 
 def has_vaultq() -> bool:
-    return take().vaultq is not None
+    return take().answers("keys")
 
 
 class Client:
@@ -181,6 +183,13 @@ class OneFile(unittest.TestCase):
 
     def test_symbols(self) -> None:
         self.assertEqual([it["name"] for it in self.ask("documentSymbol")], ["latch", "account", "acquire", "unlock", "pay", "main"])
+
+    def test_hover_tells_what_is_held(self) -> None:
+        if take().vaultq is None:
+            self.skipTest("there is no vaultq")
+        held = [self.ask("hover", position=place(line, 6))["contents"]["value"] for line in (13, 14)]
+        self.assertIn("held before this statement: L@loose", held[0])
+        self.assertIn("held before this statement: L@shut", held[1])
 
     def test_what_is_held(self) -> None:
         if not has_vaultq():
@@ -407,24 +416,30 @@ class Rest(unittest.TestCase):
 class Quick(unittest.TestCase):
     """What is asked of a text while it is typed: few questions, and none for cures."""
 
-    def test_errors_take_two_questions(self) -> None:
-        asked: List[str] = []
-
-        class Counted(programs.Program):
-            def ask(self, words, **more):  # type: ignore[override]
-                asked.append(words[0])
-                return super().ask(words, **more)
-
-        taken = take()
-        if taken.vaultq is None:
-            self.skipTest("there is no vaultq")
-        counted = Asker(*(Counted(one.name, one.path, one.proved, one.command) for one in (taken.vaultc, taken.vaultq)))
+    def test_errors_take_few_questions(self) -> None:
+        asker = counted(take())
         file = EXAMPLES / "lock_kept.v"
         document = Document(file.as_uri(), file.read_text(encoding="utf-8"))
-        self.assertEqual(len(document.errors(counted)), 1)
-        self.assertEqual(asked, ["paths", "keys"])
-        document.tables(counted)
-        self.assertLessEqual(len(asked), 3)
+        found = spent(lambda: self.assertEqual(len(document.errors(asker)), 1)).questions
+        if asker.answers("keys"):
+            self.assertEqual(found, ["paths", "keys"])
+            self.assertLessEqual(len(spent(lambda: document.tables(asker)).questions), 1)
+        else:
+            # the places where the status may have come about are asked one by one
+            self.assertLessEqual(len(found), 12)
+
+    def test_500_lines_without_an_error_take_one_question(self) -> None:
+        asker = counted(take())
+        document = Document("untitled:large.v", small_functions())
+        self.assertEqual(len(spent(lambda: document.errors(asker)).questions), 1)
+        self.assertEqual(spent(lambda: document.errors(asker)).questions, [])
+
+    def test_a_change_is_taken_without_reading_the_text(self) -> None:
+        """The text is read once for many keys that are pressed, when errors are told or something is asked."""
+        document = Document("untitled:large.v", small_functions())
+        document.change(document.text.replace("cents", "coins"), 2)
+        document.offset(place(3, 7))
+        self.assertNotIn("program", vars(document.view))
 
 
 class Positions(unittest.TestCase):
