@@ -22,6 +22,9 @@ from .tokens import tokens
 
 # what the program says of a text
 Try = Callable[[bytes], Reply]
+READ_BEHIND = 4000
+"""How many characters behind a change of a text that isn't of the grammar are read before it is tried."""
+LONGEST_TOKEN = 200
 # tokens that change which statements belong to which block, or how far a function goes
 STRUCTURE = {"{", "}", "(", ")", "else", "if", "while", "switch", "case", "focus", "return", "break", "continue"}
 
@@ -41,6 +44,19 @@ class Trial:
     reports: Sequence[Report]
     tries: Try
     jobs: int
+
+    @cached_property
+    def ends(self) -> List[int]:
+        """Where the declarations end that the parser of this package takes, up to the first one that it doesn't."""
+        parser = Parser(self.view.source.text)
+        found: List[int] = []
+        try:
+            while parser.token.kind != "end":
+                parser.declaration()
+                found.append(parser.tokens[parser.at - 1].end)
+        except (NotGrammar, RecursionError):
+            pass
+        return found
 
     def tested(self, fault: Report, cures: Sequence[Cure], most: int) -> List[Cure]:
         """The first cures that are good, at most so many."""
@@ -132,14 +148,24 @@ class Changed:
         return anywhere or not any(self.body_around(part) for part in self.parts)
 
     def is_worth_asking(self) -> bool:
-        """Whether the parser of this package takes the text, or at least more of it than before."""
+        """Whether the parser of this package takes the text, or at least more of it than before. It reads from the declaration that is changed
+        up to a whole one behind the change: what follows is as it was."""
         if not isinstance(self.fault, TextFault):
             return self.trial.is_grammar(self.edits)
-        parser = Parser(self.text)
+        first, last = min(edit.span.start for edit in self.edits), max(part.end for part in self.parts)
+        start = max((end for end in self.trial.ends if end < first), default=0)
+        cut = last + READ_BEHIND
+        parser = Parser(self.text[start:cut])
         try:
-            parser.program()
+            while parser.token.kind != "end":
+                begins = parser.token.start + start
+                parser.declaration()
+                if begins > last:
+                    return True
         except NotGrammar as error:
-            return self.is_later_text(TextFault("", "token", self.source.place(error.at)))
+            at = error.at + start
+            is_cut_off = cut < len(self.text) and at >= cut - LONGEST_TOKEN
+            return is_cut_off or self.is_later_text(TextFault("", "token", self.source.place(at)))
         except RecursionError:
             return False
         return True
