@@ -20,7 +20,7 @@ from .store import Kept, Note
 
 GIGABYTE = 1_000_000_000
 # bytes of memory that have to be free, and the most that one process may take
-MEMORY = 3 * GIGABYTE
+MEMORY = 4 * GIGABYTE
 MOST = 6 * GIGABYTE
 # bytes of the disk that have to be free where `rt` keeps proofs, and where it works: what is proved takes 7, and `rt` leaves 5 free
 DISK = 12 * GIGABYTE

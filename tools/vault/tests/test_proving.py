@@ -131,7 +131,7 @@ class Memory(unittest.TestCase):
             with self.assertRaises(NoProgram) as caught:
                 proving.require_room()
         self.assertEqual(caught.exception.status, 70)
-        self.assertEqual(caught.exception.message, "to prove the crates 3 GB of memory have to be free, and 1.2 GB are")
+        self.assertEqual(caught.exception.message, "to prove the crates 4 GB of memory have to be free, and 1.2 GB are")
 
     def test_too_little_disk_is_refused_with_what_is_needed(self) -> None:
         with mock.patch.object(proving.shutil, "disk_usage", return_value=mock.Mock(free=1_000_000_000)):
