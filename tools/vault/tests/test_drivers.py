@@ -1,24 +1,34 @@
-"""The programs of examples/drivers: each is accepted, laid out and compiled, each of its commands writes what is expected, and each
-planted bug is found where it is expected."""
+"""The programs of examples/drivers: each is accepted, laid out and compiled, each of its commands writes what is expected, each planted bug
+is found where it is expected, each library in C does what `vaultc host` does, and each exploration tells what its page says."""
 from __future__ import annotations
 
+import contextlib
 import difflib
+import io
 import json
+import os
+import shutil
 import tempfile
 import unittest
 from dataclasses import dataclass
 from pathlib import Path
-from typing import Any, List
+from typing import Any, Iterator, List
 
-from vault import layout, paths, programs
+from vault import cli, layout, modules, paths, programs
+from vault.source import Source
+from vault.tests import drivers_compiled
 
 DRIVERS = paths.TOP / "examples" / "drivers"
 EMITTED = "{emitted}"
+HOSTED = "{hosted}"
+SANITIZE = ("-O1", "-g", "-fsanitize=address,undefined", "-fno-sanitize-recover=all")
+LISTS = 3
 
 
 @dataclass(frozen=True)
 class Command:
-    """What `vaultc` is asked in the folder of a driver, and what it answers. The word `{emitted}` stands for a file with the C text."""
+    """What `vaultc`, or for an exploration `vault`, is asked in the folder of a driver, and what it answers. The word `{emitted}` stands for a file with the
+    C text, `{hosted}` for one with the text that a host calls."""
 
     words: List[str]
     status: int
@@ -38,12 +48,15 @@ class Bug:
 
 @dataclass(frozen=True)
 class Driver:
-    """A folder of examples/drivers. `emit` are the words whose answer is a C text with its certificate."""
+    """A folder of examples/drivers. `emit` are the words whose answer is a C text with its certificate. A host calls the text that the files of `hosted`
+    are joined to, an interface and its modules, or the only one."""
 
     folder: Path
     sources: List[str]
+    hosted: List[str]
     emit: List[str]
     commands: List[Command]
+    explored: Command
     bugs: List[Bug]
 
     @staticmethod
@@ -52,11 +65,24 @@ class Driver:
         fields: Any = json.loads((folder / "expected.json").read_text(encoding="utf-8"))
         commands = [Command(**it) for it in fields["commands"]]
         bugs = [Bug(**it) for it in fields["bugs"]]
-        return Driver(folder, fields["sources"], fields["emit"], commands, bugs)
+        return Driver(folder, fields["sources"], fields["hosted"], fields["emit"], commands, Command(**fields["explored"]), bugs)
 
     def text(self, name: str) -> str:
         """The text of a file of the folder."""
         return (self.folder / name).read_text(encoding="utf-8")
+
+    def hosted_text(self) -> bytes:
+        """The text that a host calls."""
+        first, *rest = (Source.read(str(self.folder / name)) for name in self.hosted)
+        if not rest:
+            return first.data
+        view = modules.join(first, *rest)
+        assert view is not None
+        return view.source.data
+
+    def host_calls(self) -> List[Command]:
+        """The commands that are lists of calls."""
+        return [it for it in self.commands if it.words[:2] == ["host", HOSTED]]
 
 
 def drivers() -> List[Driver]:
@@ -95,9 +121,12 @@ class Drivers(unittest.TestCase):
 
     def test_commands(self) -> None:
         for driver in drivers():
-            for command in driver.commands:
-                if EMITTED not in command.words:
-                    self.hold(driver, command, command.words)
+            with tempfile.TemporaryDirectory() as room:
+                hosted = Path(room) / f"{driver.folder.name}.v"
+                hosted.write_bytes(driver.hosted_text())
+                for command in driver.commands:
+                    if EMITTED not in command.words:
+                        self.hold(driver, command, [str(hosted) if word == HOSTED else word for word in command.words])
 
     def test_bugs(self) -> None:
         for driver in drivers():
@@ -121,11 +150,48 @@ class Drivers(unittest.TestCase):
                     if EMITTED in command.words:
                         self.hold(driver, command, [str(file) if word == EMITTED else word for word in command.words])
 
+    def test_explorations(self) -> None:
+        for driver in drivers():
+            with self.subTest(driver.folder.name), within(driver.folder), contextlib.redirect_stdout(io.StringIO()) as said:
+                status = cli.dispatch(driver.explored.words)
+                self.assertEqual((status, said.getvalue().splitlines()), (driver.explored.status, driver.explored.output))
+
+    @unittest.skipUnless(shutil.which("cc"), "there is no C compiler")
+    def test_libraries_do_what_host_does(self) -> None:
+        for driver in drivers():
+            with self.subTest(driver.folder.name), tempfile.TemporaryDirectory() as room:
+                source = Path(room) / f"d_{driver.folder.name}.v"
+                source.write_bytes(driver.hosted_text())
+                compiled = drivers_compiled.build(source, Path(room), [("cc", *SANITIZE)])
+                self.assertTrue(driver.host_calls())
+                for command in driver.host_calls():
+                    self.same_as_host(compiled, driver.folder, command, Path(room))
+                self.assertEqual(drivers_compiled.differences(compiled, LISTS, 60, Path(room)), [])
+
+    def same_as_host(self, compiled: drivers_compiled.Driver, folder: Path, command: Command, room: Path) -> None:
+        """Makes the calls of a command on a library, and compares what is written."""
+        listed, *rest = command.words[2:]
+        given = (folder / rest[1]).read_text(encoding="utf-8").split("\n")[:-1] if rest else []
+        host, found = drivers_compiled.outcomes(compiled, (folder / listed).read_text(encoding="utf-8").splitlines(), given, room)
+        self.assertEqual(host.splitlines(), [line for line in command.output if not line.startswith("held")])
+        self.assertEqual(found, [host])
+
     def hold(self, driver: Driver, command: Command, words: List[str]) -> None:
         """Asks these words in the driver's folder, and holds the answer to that of the command."""
         with self.subTest(f"{driver.folder.name}: {' '.join(command.words)}"):
             answer = self.vaultc.ask(words, folder=driver.folder)
             self.assertEqual((answer.status, answer.lines), (command.status, command.output))
+
+
+@contextlib.contextmanager
+def within(folder: Path) -> Iterator[None]:
+    """Works in a folder."""
+    before = Path.cwd()
+    os.chdir(folder)
+    try:
+        yield
+    finally:
+        os.chdir(before)
 
 
 if __name__ == "__main__":
