@@ -61,7 +61,7 @@ MISTAKES = {
     "an operand is missing": ("int wrong = 1 + ;",),
     "a semicolon is missing": ("int wrong = 1",),
     "a name is unknown": ("print(missing);",),
-    "a type is another": ("bool wrong = 3;",),
+    "a type is another": ("bool unlike = 3;",),
     "a name is taken": ("int taken = 1;", "int taken = 2;"),
     "an object is kept": ("tracked(W) wrong w = new wrong { v: 1 };",),
     "an object is released twice": ("tracked(W) wrong w = new wrong { v: 1 };", "release w;", "release w;"),
