@@ -1,74 +1,82 @@
 -- What status 0 of `emit` stands for.
-use Rattle.std.proofs.Common.{◌≡◌, inl, inr, ℕ, List, ◌+◌, length, length-append, Option, Some, refl, subst, arith}
-use Rattle.std.specs.Prelude.{nat_lt}
+use Rattle.std.proofs.Common.{◌≡◌, inl, inr, ℕ, List, Option, Some, Ok, subst, arith}
 use Rattle.vlt_base.specs.Limits.{limit_of}
-use Rattle.vlt_base.specs.declared.limits.TheConstants.{SOURCE_BYTES, C_BYTES}
+use Rattle.vlt_base.specs.declared.limits.TheConstants.{SOURCE_BYTES}
+use Rattle.vlt_core.specs.Core.{Program}
+use Rattle.vlt_core.specs.Derives.{IsAccepted}
 use Rattle.vlt_io.specs.Outside.{Files, IsRead, Grew}
 use Rattle.vlt_io.specs.declared.sink.Sink as sink
 use Rattle.vlt_io.specs.declared.store.Store.{Ghosts}
 use Rattle.vlt_elaboration.specs.Elaboration.{broken, exceeded}
+use Rattle.vlt_elaboration.specs.Programs.{program_told}
 use Rattle.vlt_syntax.specs.Tree.{Tree}
 use Rattle.vlt_fit_laws.specs.Texts.{TextsHaveTextTrees}
 use Rattle.vlt_verdict.specs.Verdicts.{Verdict, refused, faulty, accepted, IsVerdictOf}
-use Rattle.c_lower_accepted.specs.Texts.{TreesRunAlike, TreesAreDefined}
-use Rattle.c_lower_printed.specs.Laws.{AcceptedTextsAreReadAgain}
-use Rattle.cert_verify_laws.specs.Emitted.{EmittedFilesVerify}
-use Rattle.cert_text_laws.proofs.InTexts.{spelled_in}
-use Rattle.vaultc_replies.proofs.OfTexts.{program_of_text}
-use Rattle.cert_emit.specs.Certificates.{certificate_of}
 use Rattle.vaultc_runs.specs.declared.status.TheConstants.{DONE}
 use Rattle.vaultc_words.specs.Commands.{Command, emit}
 use Rattle.vaultc_runs.specs.Finishes.{Finishes}
 use Rattle.vaultc_runs.specs.Lines.{reply}
 use Rattle.vaultc_runs.specs.Texts.{IsTooLong, IsTextOf}
-use Rattle.vaultc_replies.specs.Emitted.{c_text, c_file, IsReplyToCompiled}
+use Rattle.vaultc_replies.specs.Emitted.{IsReplyToCompiled}
 use Rattle.vaultc_core.specs.Compiled.{IsCompiled}
 use Rattle.vaultc_words.specs.Sources.{had, unread, too_long, text_in, IsOneRead, bytes_at}
-use Rattle.vaultc_replies.specs.Replies.{IsReplyToText, MayReply}
+use Rattle.vaultc_replies.specs.Replies.{IsReplyToEmit, IsReplyByTree, IsReplyToText, MayReply}
+use Rattle.vaultc_replies.proofs.OfTexts.{program_of_text}
 use Rattle.vaultc_replies.proofs.Promises.{not_zero, status_of, no_refusal}
 use Rattle.vaultc_replies.proofs.Read.{text_tree}
 use Rattle.vaultc_words.proofs.Reading.{one_read, read_there}
-use Rattle.vaultc_replies.proofs.CFiles.{accepted_tree, text_there, certified}
+use Rattle.vaultc_core.proofs.EmittedFiles.{FileLaws, EmittedFile, emitted_file}
 
 -- what is known of programs, of the C programs of texts, and of certificates
 pub record Laws : Type 0 where
   pub trees : TextsHaveTextTrees
-  pub alike : TreesRunAlike
-  pub defined : TreesAreDefined
-  pub again : AcceptedTextsAreReadAgain
-  pub verify : EmittedFilesVerify
+  pub files : FileLaws
+
+-- the bytes are the text of an accepted program, whose C file this is
+pub record Emits (bytes text : List ℕ) : Type 0 where
+  pub tree : Tree
+  pub reads : IsTextOf tree bytes
+  pub program : Program
+  pub elaborates : program_told tree ≡ Ok program
+  pub accepted : IsAccepted program
+  pub file : EmittedFile program text
 
 module _ (laws : Laws) where
-  of_verdict : (store : Option Files) (name bytes text : List ℕ) (t : Tree) (v : Verdict) (old new : Option (List ℕ)) →
-      IsRead store name (limit_of SOURCE_BYTES) bytes → (IsTooLong bytes → ⊥) → IsTextOf t bytes → IsVerdictOf t v →
-      IsReplyToCompiled bytes v (reply DONE text) → Grew old new text → IsCompiled store name bytes old new
-  of_verdict store name bytes text t (refused (broken rule at)) old new read short reads is e grew = absurd (not_zero 6 (status_of text _ e))
-  of_verdict store name bytes text t (refused (exceeded n)) old new read short reads is e grew = absurd (not_zero 4 (status_of text _ e))
-  of_verdict store name bytes text t (faulty p f x) old new read short reads is e grew = absurd (not_zero 7 (status_of text _ e))
-  of_verdict store name bytes text t (accepted p) old new read short reads is (notes, least, e) grew =
-      let tree = text_tree laws.trees bytes t reads in
-      let follows = accepted_tree t p tree is in
-      let there = text_there (nat_lt (limit_of C_BYTES) (length (c_file p notes))) text (c_file p notes) refl e in
-      let longer : length (c_file p notes) ≡ length (c_text p) + length (certificate_of p notes) = length-append (c_text p) (certificate_of p notes) in
-      let within = there.1 in
-      record {
-        program = p;
-        reads = record { short = short; tree = t; reads = reads; elaborates = is.0 };
-        accepted = is.1;
-        notes = notes;
-        least = least;
-        verifies = laws.verify p notes (program_of_text bytes t p reads tree is.0) is.1 least (omega (arith, within, longer));
-        reads_as = certified p notes (laws.again t p (spelled_in bytes reads.0 reads.1.tokens t reads.2.1) follows (omega (arith, within, longer)));
-        runs_alike = laws.alike t p follows;
-        is_defined = laws.defined t p follows;
-        there = λ told tells. read_there store told (text_in name) bytes read short tells;
-        written = subst (λ x. Grew old new x) there.0 grew;
-      }
+  of_verdict : (bytes text : List ℕ) (t : Tree) (v : Verdict) → IsTextOf t bytes → IsVerdictOf t v → IsReplyToCompiled bytes v (reply DONE text) → Emits bytes text
+  of_verdict bytes text t (refused (broken rule at)) reads is e = absurd (not_zero 6 (status_of text _ e))
+  of_verdict bytes text t (refused (exceeded n)) reads is e = absurd (not_zero 4 (status_of text _ e))
+  of_verdict bytes text t (faulty p f x) reads is e = absurd (not_zero 7 (status_of text _ e))
+  of_verdict bytes text t (accepted p) reads is emitted = record {
+    tree = t;
+    reads = reads;
+    program = p;
+    elaborates = is.0;
+    accepted = is.1;
+    file = emitted_file laws.files p (program_of_text bytes t p reads (text_tree laws.trees bytes t reads) is.0) is.1 text emitted;
+  }
+
+  pub emits : (bytes text : List ℕ) → IsReplyByTree (IsReplyToEmit bytes) bytes (reply DONE text) → Emits bytes text
+  emits bytes text (inl (e, is, same)) = absurd (no_refusal bytes text e same)
+  emits bytes text (inr (t, reads, (v, is, same))) = of_verdict bytes text t v reads is same
 
   of_text : (store : Option Files) (file bytes text : List ℕ) (old new : Option (List ℕ)) → IsRead store file (limit_of SOURCE_BYTES) bytes → (IsTooLong bytes → ⊥) →
       IsReplyToText (emit file) bytes (reply DONE text) → Grew old new text → IsCompiled store file bytes old new
-  of_text store file bytes text old new read short (inl (e, is, same)) grew = absurd (no_refusal bytes text e same)
-  of_text store file bytes text old new read short (inr (t, reads, (v, is, same))) grew = of_verdict store file bytes text t v old new read short reads is same grew
+  of_text store file bytes text old new read short is grew =
+      let x = emits bytes text is in
+      record {
+        program = x.program;
+        reads = record { short = short; tree = x.tree; reads = x.reads; elaborates = x.elaborates };
+        accepted = x.accepted;
+        notes = x.file.notes;
+        least = x.file.least;
+        within = x.file.within;
+        verifies = x.file.verifies;
+        reads_as = x.file.reads_as;
+        runs_alike = x.file.runs_alike;
+        is_defined = x.file.is_defined;
+        there = λ told tells. read_there store told (text_in file) bytes read short tells;
+        written = subst (λ s. Grew old new s) x.file.is grew;
+      }
 
   of_may : {S : Type 0} (g : Ghosts S) (early late : S) → (file text : List ℕ) (old new : Option (List ℕ)) →
       MayReply g early late (Some (emit file)) (reply DONE text) → Grew old new text →

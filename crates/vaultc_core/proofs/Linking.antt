@@ -1,10 +1,8 @@
 -- What status 0 of `link` stands for.
-use Rattle.std.proofs.Common.{◌≡◌, inl, inr, ℕ, Bool, true, false, List, length, length-append, ◌+◌, Option, Some, Result, Ok, Err, refl, sym, ap, ◌∙◌, subst, arith}
-use Rattle.std.specs.Prelude.{nat_lt}
-use Rattle.vlt_base.specs.Limits.{limit_of}
-use Rattle.vlt_base.specs.declared.limits.TheConstants.{C_BYTES}
+use Rattle.std.proofs.Common.{◌≡◌, inl, inr, ℕ, Bool, true, false, List, Option, Some, Result, Ok, Err, refl, sym, ap, ◌∙◌, subst, arith}
 use Rattle.vlt_syntax.specs.Tree.{Tree}
 use Rattle.vlt_core.specs.Core.{Program}
+use Rattle.vlt_core.specs.Derives.{IsAccepted}
 use Rattle.vlt_io.specs.Outside.{Files, Grew}
 use Rattle.vlt_io.specs.declared.sink.Sink as sink
 use Rattle.vlt_io.specs.declared.store.Store.{Ghosts}
@@ -12,7 +10,7 @@ use Rattle.vlt_elaboration.specs.Elaboration as elab
 use Rattle.vlt_elaboration.specs.Programs.{program_told}
 use Rattle.vlt_iface.specs.View.{View}
 use Rattle.vlt_iface.specs.Told.{Told, broken, clash, exceeded, view_told, joined_told}
-use Rattle.vlt_fit_laws.specs.Fit.{ProgramsAreFit}
+use Rattle.vlt_fit_laws.specs.Fit.{IsTextTree, ProgramsAreFit}
 use Rattle.vlt_verdict.specs.Verdicts.{Verdict, refused, faulty, accepted}
 use Rattle.vlt_verdict.proofs.Single.{fit_program}
 use Rattle.vlt_view_verdict.specs.Verdicts.{IsVerdictOfView}
@@ -23,17 +21,15 @@ use Rattle.vaultc_runs.specs.Finishes.{Finishes}
 use Rattle.vaultc_runs.specs.Lines.{Reply, reply, in_file}
 use Rattle.vaultc_runs.specs.Texts.{IsTextOf, Refusal, refusal_reply}
 use Rattle.vaultc_words.specs.Sources.{had, unread, too_long, sources_of, read_in, MayRead, bytes_at}
-use Rattle.vaultc_replies.specs.Emitted.{c_text, c_file, IsEmitted}
+use Rattle.vaultc_replies.specs.Emitted.{IsEmitted}
 use Rattle.vaultc_replies.specs.Modules.{File, file_with, IsReplyByTreeIn, IsReplyToViewVerdict, IsReplyToView, IsReplyToJoined, IsReplyToLink}
 use Rattle.vaultc_replies.specs.Replies.{MayReply}
 use Rattle.vaultc_core.specs.Linked.{IsLinked}
 use Rattle.vaultc_words.proofs.Reading.{told_as}
-use Rattle.vaultc_replies.proofs.Hosts.{all_told}
+use Rattle.vaultc_replies.proofs.Ends.{all_told}
 use Rattle.vaultc_replies.proofs.Promises.{GoRight, not_zero, status_of, no_refusal}
-use Rattle.vaultc_core.proofs.Compiles.{Laws}
-use Rattle.vaultc_replies.proofs.CFiles.{accepted_tree, text_there, certified}
-use Rattle.vaultc_replies.proofs.Linked.{LinkLaws, linked as linked_in, tree_of_texts}
-use Rattle.cert_emit.specs.Certificates.{certificate_of}
+use Rattle.vaultc_replies.proofs.Linked.{LinkLaws, linked as linked_in}
+use Rattle.vaultc_core.proofs.EmittedFiles.{FileLaws, EmittedFile, emitted_file}
 
 -- ---- texts
 
@@ -94,78 +90,101 @@ joins (Ok t) text (p, gives, emitted) = record { tree = t; told = refl; program 
 same_program : (p q : Program) → ◌≡◌ {A = Result Program elab.Refused} (Ok p) (Ok q) → p ≡ q
 same_program p q e = cc
 
-module _ (law : ProgramsAreFit) (right : GoRight) (laws : Laws) (modules : LinkLaws) where
-  module _ (files : Option Files) (interface first second : List ℕ) (contents : List (List ℕ)) (text : List ℕ) (old new : Option (List ℕ)) (grew : Grew old new text)
-      (there : (told : Files) → files ≡ Some told → read_in told (sources_of (link interface first second)) ≡ had contents) where
-    abbrev i : File
-    i = file_with interface (bytes_at contents 0)
+-- the texts of an interface and of two modules are together an accepted program, whose C file this is
+pub record Links (i f g : File) (text : List ℕ) : Type 0 where
+  pub interface : Tree
+  pub first : Tree
+  pub second : Tree
+  pub interface_reads : IsTextOf interface i.bytes
+  pub first_reads : IsTextOf first f.bytes
+  pub second_reads : IsTextOf second g.bytes
+  pub joined : Tree
+  pub joins : joined_told interface first second ≡ Ok joined
+  pub tree : IsTextTree joined
+  pub program : Program
+  pub elaborates : program_told joined ≡ Ok program
+  pub accepted : IsAccepted program
+  pub file : EmittedFile program text
 
-    abbrev f : File
-    f = file_with first (bytes_at contents 1)
+module _ (laws : FileLaws) (modules : LinkLaws) (i f g : File) (text : List ℕ) where
+  abbrev AfterFirst : (t u v : Tree) → Program → Reply → Type 0
+  AfterFirst t u v p = IsReplyToView i g true (λ _. IsReplyToJoined (joined_told t u v)) (view_told t v)
 
-    abbrev g : File
-    g = file_with second (bytes_at contents 2)
+  abbrev AfterTexts : (t u v : Tree) → Reply → Type 0
+  AfterTexts t u v = IsReplyToView i f false (AfterFirst t u v) (view_told t u)
 
-    abbrev AfterFirst : (t u v : Tree) → Program → Reply → Type 0
-    AfterFirst t u v p = IsReplyToView i g true (λ _. IsReplyToJoined (joined_told t u v)) (view_told t v)
+  of_joined : (t u v : Tree) → IsTextOf t i.bytes → IsTextOf u f.bytes → IsTextOf v g.bytes → IsAcceptedWith t u false → IsAcceptedWith t v true → Joins (joined_told t u v) text → Links i f g text
+  of_joined t u v reads_t reads_u reads_v one two j =
+      let x = linked_in modules t u v j.tree i.bytes f.bytes g.bytes reads_t reads_u reads_v one two j.told in
+      let p = x.program in
+      let emitted : IsEmitted p (reply DONE text) =
+      subst (λ q. IsEmitted q (reply DONE text)) (same_program j.program p (sym j.gives ∙ x.gives)) j.emitted in
+      record {
+        interface = t;
+        first = u;
+        second = v;
+        interface_reads = reads_t;
+        first_reads = reads_u;
+        second_reads = reads_v;
+        joined = j.tree;
+        joins = j.told;
+        tree = x.tree;
+        program = p;
+        elaborates = x.gives;
+        accepted = x.accepted;
+        file = emitted_file laws p x.texts x.accepted text emitted;
+      }
 
-    abbrev AfterTexts : (t u v : Tree) → Reply → Type 0
-    AfterTexts t u v = IsReplyToView i f false (AfterFirst t u v) (view_told t u)
+  of_second : (t u v : Tree) → IsTextOf t i.bytes → IsTextOf u f.bytes → IsTextOf v g.bytes → IsAcceptedWith t u false →
+      Passes true (λ _. IsReplyToJoined (joined_told t u v)) (view_told t v) text → Links i f g text
+  of_second t u v reads_t reads_u reads_v one x =
+      of_joined t u v reads_t reads_u reads_v one (record { view = x.view; told = x.told; program = x.program; is = x.is }) (joins (joined_told t u v) text x.replies)
 
-    of_joined : (t u v : Tree) → IsTextOf t i.bytes → IsTextOf u f.bytes → IsTextOf v g.bytes → IsAcceptedWith t u false → IsAcceptedWith t v true → Joins (joined_told t u v) text →
-        IsLinked files (link interface first second) contents old new
-    of_joined t u v reads_t reads_u reads_v one two j =
-        let x = linked_in modules t u v j.tree i.bytes f.bytes g.bytes reads_t reads_u reads_v one two j.told in
-        let p = x.program in
-        let emitted : IsEmitted p (reply DONE text) =
-        subst (λ q. IsEmitted q (reply DONE text)) (same_program j.program p (sym j.gives ∙ x.gives)) j.emitted in
-        let notes = emitted.0 in
-        let there_is = text_there (nat_lt (limit_of C_BYTES) (length (c_file p notes))) text (c_file p notes) refl emitted.2 in
-        let longer : length (c_file p notes) ≡ length (c_text p) + length (certificate_of p notes) = length-append (c_text p) (certificate_of p notes) in
-        let within = there_is.1 in
-        let follows = accepted_tree j.tree p x.tree (x.gives, x.accepted) in
-        let fit = fit_program law j.tree p x.tree x.gives in
-        record {
-          interface = t;
-          first = u;
-          second = v;
-          interface_reads = reads_t;
-          first_reads = reads_u;
-          second_reads = reads_v;
-          joined = j.tree;
-          joins = j.told;
-          program = p;
-          elaborates = x.gives;
-          accepted = x.accepted;
-          never_goes_wrong = right.never p fit.kinded x.accepted fit.sizes fit.well_formed.states fit.narrow;
-          leaves_only_its_clause = right.leaves p fit.kinded x.accepted fit.sizes fit.well_formed.states fit.narrow;
-          notes = notes;
-          least = emitted.1;
-          verifies = laws.verify p notes x.texts x.accepted emitted.1 (omega (arith, within, longer));
-          reads_as = certified p notes (laws.again x.texts.tree p x.texts.spelled (tree_of_texts p x.texts x.accepted) (omega (arith, within, longer)));
-          runs_alike = laws.alike j.tree p follows;
-          is_defined = laws.defined j.tree p follows;
-          there = there;
-          written = subst (λ s. Grew old new s) there_is.0 grew;
-        }
+  of_first : (t u v : Tree) → IsTextOf t i.bytes → IsTextOf u f.bytes → IsTextOf v g.bytes → Passes false (AfterFirst t u v) (view_told t u) text → Links i f g text
+  of_first t u v reads_t reads_u reads_v x =
+      of_second t u v reads_t reads_u reads_v (record { view = x.view; told = x.told; program = x.program; is = x.is })
+      (view_passes i g true (λ _. IsReplyToJoined (joined_told t u v)) (view_told t v) text x.replies)
 
-    of_second : (t u v : Tree) → IsTextOf t i.bytes → IsTextOf u f.bytes → IsTextOf v g.bytes → IsAcceptedWith t u false →
-        Passes true (λ _. IsReplyToJoined (joined_told t u v)) (view_told t v) text → IsLinked files (link interface first second) contents old new
-    of_second t u v reads_t reads_u reads_v one x =
-        of_joined t u v reads_t reads_u reads_v one (record { view = x.view; told = x.told; program = x.program; is = x.is }) (joins (joined_told t u v) text x.replies)
+  pub links : IsReplyToLink i f g (reply DONE text) → Links i f g text
+  links is =
+      let t = tree_in i (λ t. IsReplyByTreeIn f (λ u. IsReplyByTreeIn g (λ v. AfterTexts t u v))) text is in
+      let u = tree_in f (λ u. IsReplyByTreeIn g (λ v. AfterTexts t.tree u v)) text t.replies in
+      let v = tree_in g (λ v. AfterTexts t.tree u.tree v) text u.replies in
+      of_first t.tree u.tree v.tree t.reads u.reads v.reads (view_passes i f false (AfterFirst t.tree u.tree v.tree) (view_told t.tree u.tree) text v.replies)
 
-    of_first : (t u v : Tree) → IsTextOf t i.bytes → IsTextOf u f.bytes → IsTextOf v g.bytes → Passes false (AfterFirst t u v) (view_told t u) text →
-        IsLinked files (link interface first second) contents old new
-    of_first t u v reads_t reads_u reads_v x =
-        of_second t u v reads_t reads_u reads_v (record { view = x.view; told = x.told; program = x.program; is = x.is })
-        (view_passes i g true (λ _. IsReplyToJoined (joined_told t u v)) (view_told t v) text x.replies)
-
-    of_contents : IsReplyToLink i f g (reply DONE text) → IsLinked files (link interface first second) contents old new
-    of_contents is =
-        let t = tree_in i (λ t. IsReplyByTreeIn f (λ u. IsReplyByTreeIn g (λ v. AfterTexts t u v))) text is in
-        let u = tree_in f (λ u. IsReplyByTreeIn g (λ v. AfterTexts t.tree u v)) text t.replies in
-        let v = tree_in g (λ v. AfterTexts t.tree u.tree v) text u.replies in
-        of_first t.tree u.tree v.tree t.reads u.reads v.reads (view_passes i f false (AfterFirst t.tree u.tree v.tree) (view_told t.tree u.tree) text v.replies)
+module _ (law : ProgramsAreFit) (right : GoRight) (laws : FileLaws) (modules : LinkLaws) where
+  of_contents : (files : Option Files) (interface first second : List ℕ) (contents : List (List ℕ)) (text : List ℕ) (old new : Option (List ℕ)) → Grew old new text →
+      ((told : Files) → files ≡ Some told → read_in told (sources_of (link interface first second)) ≡ had contents) →
+      IsReplyToLink (file_with interface (bytes_at contents 0)) (file_with first (bytes_at contents 1)) (file_with second (bytes_at contents 2)) (reply DONE text) →
+      IsLinked files (link interface first second) contents old new
+  of_contents files interface first second contents text old new grew there is =
+      let x = links laws modules (file_with interface (bytes_at contents 0)) (file_with first (bytes_at contents 1)) (file_with second (bytes_at contents 2)) text is in
+      let p = x.program in
+      let fit = fit_program law x.joined p x.tree x.elaborates in
+      record {
+        interface = x.interface;
+        first = x.first;
+        second = x.second;
+        interface_reads = x.interface_reads;
+        first_reads = x.first_reads;
+        second_reads = x.second_reads;
+        joined = x.joined;
+        joins = x.joins;
+        program = p;
+        elaborates = x.elaborates;
+        accepted = x.accepted;
+        never_goes_wrong = right.never p fit.kinded x.accepted fit.sizes fit.well_formed.states fit.narrow;
+        leaves_only_its_clause = right.leaves p fit.kinded x.accepted fit.sizes fit.well_formed.states fit.narrow;
+        notes = x.file.notes;
+        least = x.file.least;
+        within = x.file.within;
+        verifies = x.file.verifies;
+        reads_as = x.file.reads_as;
+        runs_alike = x.file.runs_alike;
+        is_defined = x.file.is_defined;
+        there = there;
+        written = subst (λ s. Grew old new s) x.file.is grew;
+      }
 
   of_may : {S : Type 0} (g : Ghosts S) (early late : S) → (interface first second text : List ℕ) (old new : Option (List ℕ)) →
       MayReply g early late (Some (link interface first second)) (reply DONE text) → Grew old new text →

@@ -40,6 +40,7 @@ module _ (keep : VerifiedFilesKeepTheirPromise) where
   of_reply store name bytes text old new read short (inr (x, is, e)) grew = absurd (no_refusal text x e)
   of_reply store name bytes text old new read short (inl (p, notes, is, e)) grew =
       record {
+        short = short;
         program = p;
         notes = notes;
         verifies = is;

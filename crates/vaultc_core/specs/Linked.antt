@@ -1,5 +1,7 @@
 -- What status 0 of `link` promises of the bytes that were read.
-use Rattle.std.specs.Prelude.{◌≡◌, ℕ, List, length, Option, Some, Ok}
+use Rattle.std.specs.Prelude.{◌≡◌, ◌≤◌, ℕ, List, length, Option, Some, Ok}
+use Rattle.vlt_base.specs.Limits.{limit_of}
+use Rattle.vlt_base.specs.declared.limits.TheConstants.{C_BYTES}
 use Rattle.vlt_syntax.specs.Tree.{Tree}
 use Rattle.vlt_core.specs.Core.{Program}
 use Rattle.vlt_core.specs.Derives.{IsAccepted}
@@ -37,6 +39,7 @@ pub record IsLinked (files : Option Files) (command : Command) (contents : List 
   pub leaves_only_its_clause : LeavesOnlyItsClause program
   pub notes : List (List Note)
   pub least : IsLeastCertificate program notes
+  pub within : length (c_file program notes) ≤ limit_of C_BYTES
   pub verifies : IsVerifiedFile (c_file program notes) (unplaced_program program) notes
   pub reads_as : IsCProgramOf (c_file program notes) (lowered program)
       (Some (record { from = length (c_text program); to = length (c_file program notes) }))

@@ -16,12 +16,15 @@ ghost use Rattle.vaultc_replies.specs.Programs.{IsProgramOf};
 ghost use Rattle.vaultc_replies.specs.Replies.{HasOneReply, HasSomeReply, IsReplyTo, IsInside, MayReply};
 ghost use Rattle.vaultc_replies.specs.Unread.{IsUnread};
 ghost use Rattle.vaultc_words.specs.Sources.{AllRead, IsOneRead, c_text_in, text_in};
-ghost use Rattle.vaultc_runs.specs.Finishes.{Finishes, WithoutFault, WrotePart, WroteReply};
+ghost use Rattle.vaultc_runs.specs.Runs.{IsOfARun};
+ghost use Rattle.vaultc_runs.specs.Finishes.{Finishes, Inside, WithoutFault, WrotePart, WroteReply};
 ghost use Rattle.vaultc_replies.specs.Promised.{IsPromised};
 ghost use Rattle.vaultc_core.specs.Compiled.{IsCompiled};
 ghost use Rattle.vaultc_core.specs.Verified.{IsVerified};
-ghost use Rattle.vaultc_replies.specs.Hosted.{IsHosted, IsOfARun};
+ghost use Rattle.vaultc_replies.specs.Ran.{IsRan};
+ghost use Rattle.vaultc_replies.specs.Hosted.{IsHosted};
 ghost use Rattle.vaultc_core.specs.Linked.{IsLinked};
+ghost use Rattle.vaultc_core.specs.Written.{WrittenFilesGoRight};
 
 mod commands;
 mod emit;
@@ -30,6 +33,7 @@ mod judged;
 mod links;
 mod load;
 pub mod status;
+mod trial;
 
 use c_lower_accepted::trees_are_lowered_rightly;
 use c_lower_printed::accepted_texts_are_read_again;
@@ -39,7 +43,8 @@ use cert_least_texts::accepted_texts_have_one;
 use cert_text_laws::joined_programs_are_of_texts;
 use cert_verify::texts_verify_in_one_way;
 use cert_verify_laws::{
-    c_files_verify_in_some_way, emitted_files_verify, verified_files_keep_their_promise,
+    c_files_verify_in_some_way, emitted_files_verify, places_keep_counts,
+    verified_files_keep_their_promise,
 };
 use std::alloc::Global;
 use vlt_check_laws::first_fault_has_witness;
@@ -59,6 +64,7 @@ use vlt_view_verdict::{a_view_has_one_verdict, a_view_has_some_verdict, accepted
 /// - `promised`: `check` gives 0 only for bytes of a program that follows the rules, and no run of that one goes wrong.
 /// - `compiled`: `emit` gives 0 only for bytes of such a program, and the C text that it writes stands for a program that does the same.
 /// - `verified`: `verify` gives 0 only for bytes of a C file whose certificate says such a program, of which its C text is the lowering.
+/// - `ran`: `run` has the status of a run only for bytes of such a program: what it writes is what the run of that program comes to, and no run goes wrong.
 /// - `hosted`: `host` has the status of a run only for bytes of such a program and of calls: what it writes is what these calls come to, and no host makes the
 ///   program go wrong.
 /// - `linked`: `link` gives 0 only for the texts of an interface and two modules that are together such a program; it writes of it what `emit` writes.
@@ -68,7 +74,7 @@ use vlt_view_verdict::{a_view_has_one_verdict, a_view_has_some_verdict, accepted
 /// - `usage`, `no_command`: 1 is for words that are no command; they have the usage line, or a part of it where the sink failed.
 /// - `unread`: 2 is for a file of the command that wasn't read, and that is written.
 /// - `failed`: 3 is for a sink that failed.
-/// - `memory`: after 4 nothing was written, or a part of a reply to the store's files.
+/// - `memory`: after 4 nothing was written, or a part of a reply to the store's files that isn't that one wasn't read.
 pub fn vaultc<S: Store, K: Sink>(alloc: Global, words: &[String], store: &mut S, out: &mut K) -> u8
     ensures every_store { Finishes K.Sink
         (MayReply S.Store store.old store.new (command_of (map string_bytes words.now)))
@@ -87,6 +93,11 @@ pub fn vaultc<S: Store, K: Sink>(alloc: Global, words: &[String], store: &mut S,
         command_of (map string_bytes words.now) ≡ Some (commands.verify file) → result ≡ DONE →
         (bytes : List ℕ) × IsOneRead S.Store store.old store.new (c_text_in file) bytes
         × IsVerified (S.files store.old) file bytes (K.written out.old) (K.written out.new) }
+    ensures ran { (file : List ℕ) (taken : commands.Taken) →
+        command_of (map string_bytes words.now) ≡ Some (commands.run file taken) →
+        IsOfARun result → AllRead S.Store store.old store.new (commands.run file taken)
+        (λ contents. IsRan (S.files store.old) file taken contents result
+        (K.written out.old) (K.written out.new)) }
     ensures hosted { (file calls : List ℕ) (taken : commands.Taken) →
         command_of (map string_bytes words.now) ≡ Some (commands.host file calls taken) →
         IsOfARun result → AllRead S.Store store.old store.new (commands.host file calls taken)
@@ -123,8 +134,8 @@ pub fn vaultc<S: Store, K: Sink>(alloc: Global, words: &[String], store: &mut S,
     ensures failed { result ≡ SINK_FAILED → Rose (K.faults out.old) (K.faults out.new) }
     ensures memory { (files : Files) → S.files store.old ≡ Some files →
         result ≡ NO_MEMORY → Grew (K.written out.old) (K.written out.new) [] ⊎
-        WrotePart K.Sink (IsReplyTo (map string_bytes words.now) files) out.old
-        out.new }
+        WrotePart K.Sink (Inside (IsReplyTo (map string_bytes words.now) files))
+        out.old out.new }
 {
     programs_are_fit();
     accepted_programs_go_right();
@@ -154,6 +165,22 @@ pub fn a_command_has_one_reply()
     texts_are_read_in_one_way();
     least_certificates_are_one();
     texts_verify_in_one_way();
+}
+
+/// What `emit` or `link` writes with status 0 verifies, with so many functions as the program has with a body, and no run of it
+/// breaks a rule of C.
+pub fn written_files_go_right()
+    ensures { WrittenFilesGoRight }
+{
+    texts_have_text_trees();
+    trees_are_lowered_rightly();
+    accepted_texts_are_read_again();
+    emitted_files_verify();
+    places_keep_counts();
+    texts_verify_in_one_way();
+    texts_are_read_in_one_way();
+    accepted_modules_link();
+    joined_programs_are_of_texts();
 }
 
 /// It can't be that a command has no reply to what it read.

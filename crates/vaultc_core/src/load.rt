@@ -16,6 +16,7 @@ ghost use Rattle.vaultc_runs.specs.Texts.{IsTextOf};
 
 use crate::emit::{accepted, emitted};
 use crate::judged::judge_text;
+use crate::trial::try_file;
 use std::alloc::{AllocError, Global};
 use vaultc_replies::{read_tree, run_compiled, verdict};
 use vaultc_runs::{DONE, NO_MEMORY, finish, finish_reply, refusal};
@@ -29,7 +30,8 @@ use vlt_sound::accepted_programs_go_right;
 use vlt_syntax::Tree;
 use vlt_verdict::Verdict;
 
-/// Compiles an accepted program, and then runs it.
+/// Compiles an accepted program, tries what was written of it, and then runs it. The trial comes to what the run comes to, so
+/// it changes no word; only memory may run out in it.
 fn compile_and_run<K: Sink>(alloc: Global, made: &Generated, program: &Program, out: &mut K) -> u8
     requires compilable { IsCompilable (program_of program.now) }
     requires runnable { IsRunnable (program_of program.now) }
@@ -40,9 +42,13 @@ fn compile_and_run<K: Sink>(alloc: Global, made: &Generated, program: &Program, 
     let Ok(file) = emitted(alloc, program) else {
         return NO_MEMORY;
     };
+    let text = file.text.as_slice();
     if file.status != DONE {
-        return finish(out, file.status, file.text.as_slice());
+        return finish(out, file.status, text);
     }
+    let Ok(()) = try_file(alloc, text) else {
+        return NO_MEMORY;
+    };
     run_compiled(alloc, made, program, file.text.len(), out)
 }
 

@@ -13,6 +13,8 @@ pub mod Some
 pub mod Told
 pub mod Replied
 pub mod Promises
+pub mod Ends
+pub mod Runs
 pub mod Hosts
 pub mod ModuleSteps
 pub mod CFiles

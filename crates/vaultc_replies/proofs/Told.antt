@@ -8,7 +8,7 @@ use Rattle.vlt_io.specs.declared.store.Store.{Ghosts}
 use Rattle.vaultc_runs.specs.declared.status.TheConstants.{NO_COMMAND, UNREAD, SINK_FAILED, NO_MEMORY}
 use Rattle.vaultc_words.specs.Commands.{Command, names_files}
 use Rattle.vaultc_words.specs.Sources.{Read, had, unread, too_long, sources_of, read_in, MayRead}
-use Rattle.vaultc_runs.specs.Finishes.{WroteReply, WrotePart, Finishes}
+use Rattle.vaultc_runs.specs.Finishes.{WroteReply, WrotePart, Inside, Finishes}
 use Rattle.vaultc_runs.specs.Lines.{Reply, reply, long_reply}
 use Rattle.vaultc_replies.specs.Replies.{IsReplyToRead, IsReplyToCommand, IsInside, MayReply}
 use Rattle.vaultc_replies.specs.Unread.{IsUnread}
@@ -39,10 +39,10 @@ told g k old new before after command status files f tells inside =
 
 pub memory : {S K : Type 0} (g : Ghosts S) (k : sink.Ghosts K) (old new : S) (before after : K) (command : Option Command) (status : ℕ) (files : Files)
     → Finishes k (MayReply g old new command) before after status → g.files old ≡ Some files → status ≡ NO_MEMORY
-    → Grew (k.written before) (k.written after) [] ⊎ WrotePart k (IsReplyToCommand command files) before after
+    → Grew (k.written before) (k.written after) [] ⊎ WrotePart k (Inside (IsReplyToCommand command files)) before after
 memory g k old new before after command status files f tells four = elim (f.memory four) [
   | inl none ↦ inl none
-  | inr part ↦ inr (part.0, part.1, of_told g old new command files (reply part.0 part.1) tells part.2.0 part.2.1, part.3)
+  | inr part ↦ inr (part.0, part.1, (of_told g old new command files (reply part.0 part.1) tells part.2.0 part.2.1, part.2.1), part.3)
 ]
 
 -- ---- nothing fails

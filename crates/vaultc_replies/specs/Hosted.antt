@@ -1,5 +1,5 @@
 -- What the end of a run for a host promises of the bytes that were read.
-use Rattle.std.specs.Prelude.{◌≡◌, ◌⊎◌, ℕ, ℤ, List, Option, Some, Ok}
+use Rattle.std.specs.Prelude.{◌≡◌, ℕ, ℤ, List, Option, Some, Ok}
 use Rattle.vlt_core.specs.Core.{Program}
 use Rattle.vlt_core.specs.Derives.{IsAccepted}
 use Rattle.vlt_io.specs.Outside.{Files, Grew}
@@ -8,17 +8,11 @@ use Rattle.vlt_host_meaning.specs.Calls.{HostCall}
 use Rattle.vlt_host_meaning.specs.HostRun.{HostRan, host_run}
 use Rattle.vlt_host.specs.CallsFile.{calls_of}
 use Rattle.vlt_host_laws.specs.Promise.{NeverGoesWrongForHosts, KeepsClauses, LeavesOnlyTheHosts}
-use Rattle.vaultc_runs.specs.declared.status.TheConstants.{DONE, TRAPPED, OUT_OF_BUDGET, OUT_OF_NUMBERS}
 use Rattle.vaultc_words.specs.Commands.{Taken, host}
 use Rattle.vaultc_words.specs.Sources.{had, sources_of, read_in, bytes_at}
 use Rattle.vaultc_runs.specs.Lines.{reply}
 use Rattle.vaultc_replies.specs.Programs.{IsProgramOf}
 use Rattle.vaultc_runs.specs.HostRuns.{IsReplyToHostRan}
-
--- a run came to its end, in one way or another
-abbrev pub IsOfARun : (status : ℕ) → Type 0
-IsOfARun status =
-    (status ≡ DONE) ⊎ (status ≡ TRAPPED) ⊎ (status ≡ OUT_OF_BUDGET) ⊎ (status ≡ OUT_OF_NUMBERS)
 
 -- the run of a program for a host that makes these calls, within the budgets that the command takes
 abbrev pub run_taken : Program → Taken → (input : List ℤ) → (answers : List (List ℤ)) → List HostCall → HostRan

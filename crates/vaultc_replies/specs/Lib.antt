@@ -8,6 +8,7 @@ pub mod Modules
 pub mod Unread
 pub mod Replies
 pub mod Promised
+pub mod Ran
 pub mod Hosted
 pub mod Judged
 pub mod ModuleSteps

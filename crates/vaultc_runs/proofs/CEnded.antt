@@ -1,6 +1,6 @@
 -- What is written of the run of a C text: its events, and the last line of its end.
 use Rattle.std.proofs.Common.{◌≡◌, ◌⊎◌, inl, inr, ℕ, ◌≤◌, List, [], Option, Some, None, refl, sym, ap, subst, arith}
-use Rattle.std.specs.Prelude.{◌≢◌, codes, MatchOption, IfSome, IfOk, Result, Err}
+use Rattle.std.specs.Prelude.{◌≢◌, MatchOption, IfSome, IfOk, Result, Err}
 use Rattle.std.specs.declared.alloc.AllocError.{AllocError}
 use Rattle.std.proofs.lemmas.Option.{same_Some}
 use Rattle.vlt_base.specs.declared.Budgets.{Budgets}
@@ -26,12 +26,12 @@ use Rattle.c_reader.specs.declared.error.CError.TheVariants as error
 use Rattle.c_interp.specs.Runs.Ends.{EndsGiven, EndsWith, EndsAs}
 use Rattle.c_interp.specs.declared.runs.end.CEnd.{CEnd}
 use Rattle.c_interp.specs.declared.runs.end.CEnd.TheVariants.{Unread, Ended}
-use Rattle.vaultc_runs.specs.declared.status.TheConstants.{DONE, UNREAD, SINK_FAILED, NO_MEMORY, TRAPPED, OUT_OF_BUDGET, OUT_OF_NUMBERS, UNDEFINED}
+use Rattle.vaultc_runs.specs.declared.status.TheConstants.{UNREAD, SINK_FAILED, NO_MEMORY}
 use Rattle.vaultc_runs.specs.declared.reply.Reply.{Reply as Shown}
-use Rattle.vaultc_runs.specs.CRuns.{c_refusal, undefined_line, stop_reply, end_reply, took, IsReplyToC}
+use Rattle.vaultc_runs.specs.CRuns.{c_refusal, c_last_of}
 use Rattle.vaultc_runs.specs.Finishes.{Finishes}
-use Rattle.vaultc_runs.specs.Lines.{Reply, reply, trap_line, bad_answer_line, following}
-use Rattle.vaultc_runs.specs.Shown.{IsReasonOf, IsTellableEnd, StopsRun, StopsC, EndsC, IsReplyOf, shown_reply}
+use Rattle.vaultc_runs.specs.Lines.{Reply, following}
+use Rattle.vaultc_runs.specs.Shown.{IsReasonOf, IsTellableEnd, StopsRun, stop_reply, end_reply, StopsC, EndsC, IsReplyOf, shown_reply}
 use Rattle.vaultc_runs.specs.Runs.{stop_line, end_line}
 use Rattle.vaultc_runs.proofs.Ended.{Says, cut_off, came_to_end}
 use Rattle.vaultc_runs.proofs.Finished.{grew_none, finishes_as, reply_is}
@@ -61,43 +61,54 @@ outcome_there (halted.Stopped (stop.BadAnswer n)) last e = (model.bad_answer n, 
 outcome_there (halted.Stopped stop.SinkFault) last e = absurd (none_some last e)
 outcome_there (halted.Undefined rule n) last e = (model.undefined rule n, refl)
 
--- each outcome has a stop with a last line
+-- each outcome has a stop, with its last line
 pub record StopFor (o : Outcome) : Type 0 where
   pub stop : CStop
-  pub last : Reply
   pub outcome : outcome_of stop ≡ Some o
-  pub line : stop_reply stop ≡ Some last
+  pub line : stop_reply stop ≡ Some (c_last_of o)
 
 pub stop_for : (o : Outcome) → StopFor o
-stop_for model.done = record { stop = (halted.Stopped stop.Done); last = reply DONE []; outcome = refl; line = refl }
-stop_for (model.trap t) = record { stop = halted.Stopped (stop.Trap t); last = reply TRAPPED (trap_line t); outcome = refl; line = refl }
-stop_for model.fuel_end = record { stop = (halted.Stopped stop.FuelEnd); last = reply OUT_OF_BUDGET (codes "budget fuel\n"); outcome = refl; line = refl }
-stop_for model.heap_end = record { stop = (halted.Stopped stop.HeapEnd); last = reply OUT_OF_BUDGET (codes "budget heap\n"); outcome = refl; line = refl }
-stop_for model.depth_end = record { stop = (halted.Stopped stop.DepthEnd); last = reply OUT_OF_BUDGET (codes "budget depth\n"); outcome = refl; line = refl }
-stop_for model.input_end = record { stop = (halted.Stopped stop.InputEnd); last = reply OUT_OF_NUMBERS (codes "input ended\n"); outcome = refl; line = refl }
-stop_for model.answers_end = record { stop = (halted.Stopped stop.AnswersEnd); last = reply OUT_OF_NUMBERS (codes "answers ended\n"); outcome = refl; line = refl }
-stop_for (model.bad_answer n) = record { stop = halted.Stopped (stop.BadAnswer n); last = reply OUT_OF_NUMBERS (bad_answer_line n); outcome = refl; line = refl }
-stop_for (model.undefined rule n) = record { stop = halted.Undefined rule n; last = reply UNDEFINED (undefined_line rule n); outcome = refl; line = refl }
+stop_for model.done = record { stop = halted.Stopped stop.Done; outcome = refl; line = refl }
+stop_for (model.trap t) = record { stop = halted.Stopped (stop.Trap t); outcome = refl; line = refl }
+stop_for model.fuel_end = record { stop = halted.Stopped stop.FuelEnd; outcome = refl; line = refl }
+stop_for model.heap_end = record { stop = halted.Stopped stop.HeapEnd; outcome = refl; line = refl }
+stop_for model.depth_end = record { stop = halted.Stopped stop.DepthEnd; outcome = refl; line = refl }
+stop_for model.input_end = record { stop = halted.Stopped stop.InputEnd; outcome = refl; line = refl }
+stop_for model.answers_end = record { stop = halted.Stopped stop.AnswersEnd; outcome = refl; line = refl }
+stop_for (model.bad_answer n) = record { stop = halted.Stopped (stop.BadAnswer n); outcome = refl; line = refl }
+stop_for (model.undefined rule n) = record { stop = halted.Undefined rule n; outcome = refl; line = refl }
 
-outcome_line : (s : CStop) (o p : Outcome) → outcome_of s ≡ Some o → stop_reply s ≡ Some ((stop_for o).last) → o ≡ p → stop_reply s ≡ Some ((stop_for p).last)
-outcome_line s o p e line same = subst (λ x. stop_reply s ≡ Some ((stop_for x).last)) same line
+outcome_line : (s : CStop) (o p : Outcome) → stop_reply s ≡ Some (c_last_of o) → Some o ≡ Some p → stop_reply s ≡ Some (c_last_of p)
+outcome_line s o p line same = subst (λ x. stop_reply s ≡ Some (c_last_of x)) (same_Some o p same) line
 
 -- a stop of an outcome has its last line
-pub line_of : (s : CStop) (o : Outcome) → outcome_of s ≡ Some o → stop_reply s ≡ Some ((stop_for o).last)
-unfolding stop_for
-line_of (halted.Stopped stop.Done) o e = outcome_line (halted.Stopped stop.Done) model.done o refl refl (same_Some model.done o e)
-line_of (halted.Stopped (stop.Trap t)) o e = outcome_line (halted.Stopped (stop.Trap t)) (model.trap t) o refl refl (same_Some (model.trap t) o e)
-line_of (halted.Stopped stop.FuelEnd) o e = outcome_line (halted.Stopped stop.FuelEnd) model.fuel_end o refl refl (same_Some model.fuel_end o e)
-line_of (halted.Stopped stop.HeapEnd) o e = outcome_line (halted.Stopped stop.HeapEnd) model.heap_end o refl refl (same_Some model.heap_end o e)
-line_of (halted.Stopped stop.DepthEnd) o e = outcome_line (halted.Stopped stop.DepthEnd) model.depth_end o refl refl (same_Some model.depth_end o e)
-line_of (halted.Stopped stop.InputEnd) o e = outcome_line (halted.Stopped stop.InputEnd) model.input_end o refl refl (same_Some model.input_end o e)
-line_of (halted.Stopped stop.AnswersEnd) o e = outcome_line (halted.Stopped stop.AnswersEnd) model.answers_end o refl refl (same_Some model.answers_end o e)
-line_of (halted.Stopped (stop.BadAnswer n)) o e = outcome_line (halted.Stopped (stop.BadAnswer n)) (model.bad_answer n) o refl refl (same_Some (model.bad_answer n) o e)
-line_of (halted.Stopped stop.SinkFault) o e = absurd cc
-line_of (halted.Undefined rule n) o e = outcome_line (halted.Undefined rule n) (model.undefined rule n) o refl refl (same_Some (model.undefined rule n) o e)
+pub line_of : (s : CStop) (o : Outcome) → outcome_of s ≡ Some o → stop_reply s ≡ Some (c_last_of o)
+line_of (halted.Stopped stop.Done) o e = outcome_line (halted.Stopped stop.Done) model.done o refl e
+line_of (halted.Stopped (stop.Trap t)) o e = outcome_line (halted.Stopped (stop.Trap t)) (model.trap t) o refl e
+line_of (halted.Stopped stop.FuelEnd) o e = outcome_line (halted.Stopped stop.FuelEnd) model.fuel_end o refl e
+line_of (halted.Stopped stop.HeapEnd) o e = outcome_line (halted.Stopped stop.HeapEnd) model.heap_end o refl e
+line_of (halted.Stopped stop.DepthEnd) o e = outcome_line (halted.Stopped stop.DepthEnd) model.depth_end o refl e
+line_of (halted.Stopped stop.InputEnd) o e = outcome_line (halted.Stopped stop.InputEnd) model.input_end o refl e
+line_of (halted.Stopped stop.AnswersEnd) o e = outcome_line (halted.Stopped stop.AnswersEnd) model.answers_end o refl e
+line_of (halted.Stopped (stop.BadAnswer n)) o e = outcome_line (halted.Stopped (stop.BadAnswer n)) (model.bad_answer n) o refl e
+line_of (halted.Stopped stop.SinkFault) o e = absurd (no_outcome o e)
+line_of (halted.Undefined rule n) o e = outcome_line (halted.Undefined rule n) (model.undefined rule n) o refl e
 
 is_cut : (s : CStop) (o : Outcome) → outcome_of s ≡ Some o → s ≡ (halted.Stopped stop.SinkFault) → ⊥
 is_cut s o e same = no_outcome o (subst (λ x. outcome_of x ≡ Some o) same e)
+
+-- a sink that takes all, with what was written to it
+abbrev pub took : List ℕ → Outside
+took bytes = record { written = Some bytes; faults = 0 }
+
+-- A reply, by how the machine's run may end over such a sink: it writes the events, and then comes the last line of the end.
+pub record IsReplyByEnd (text input answers : List ℕ) (b : Budgets) (r : Reply) : Type 0 where
+  pub end : CEnd
+  pub events : List ℕ
+  pub ends : EndsAs text input answers b (took []) (took events) end
+  pub last : Reply
+  pub last_is : end_reply text end ≡ Some last
+  pub whole : r ≡ following events last
 
 -- the run's outcome, over a sink that takes all
 pub stops_whole : (ran : Ran) (s : CStop) → outcome_of s ≡ Some ran.outcome → StopsAs ran (took []) (took (event_text ran.world.events)) s
@@ -193,7 +204,7 @@ module _ (text input answers : List ℕ) (b : Budgets) where
 
 -- the events and this last line are one reply
 one_says : (text input answers : List ℕ) (b : Budgets) (end : CEnd) (events : List ℕ) (last : Reply) → end_reply text end ≡ Some last
-    → EndsAs text input answers b (took []) (took events) end → Says (IsReplyToC text input answers b) (λ r. r ≡ last) events
+    → EndsAs text input answers b (took []) (took events) end → Says (IsReplyByEnd text input answers b) (λ r. r ≡ last) events
 one_says text input answers b end events last line ends = record {
   replies = λ r same. record { end = end; events = events; ends = ends; last = last; last_is = line; whole = ap (following events) same };
   inside = λ r same. subst (λ q. q.status ≢ UNREAD) (sym same) (own_c_end text end last line).1;
@@ -202,10 +213,10 @@ one_says text input answers b end events last line ends = record {
 
 last_written : {K : Type 0} (g : Ghosts K) (text input answers : List ℕ) (b : Budgets) (old mid new : K) (end : CEnd) (result : ℕ) (last : Reply) → end_reply text end ≡ Some last
     → EndsAs text input answers b (record { written = g.written old; faults = g.faults old }) (record { written = g.written mid; faults = g.faults mid }) end
-    → Finishes g (λ r. r ≡ last) mid new result → Finishes g (IsReplyToC text input answers b) old new result
+    → Finishes g (λ r. r ≡ last) mid new result → Finishes g (IsReplyByEnd text input answers b) old new result
 last_written g text input answers b old mid new end result last line ends f =
     let w = wrote text input answers b (record { written = g.written old; faults = g.faults old }) (record { written = g.written mid; faults = g.faults mid }) end last line ends in
-    came_to_end g (IsReplyToC text input answers b) (λ r. r ≡ last) w.events old mid new result (one_says text input answers b end w.events last line w.ends) w.grew w.counted f
+    came_to_end g (IsReplyByEnd text input answers b) (λ r. r ≡ last) w.events old mid new result (one_says text input answers b end w.events last line w.ends) w.grew w.counted f
 
 -- ---- an end without one
 
@@ -225,13 +236,14 @@ cut_in p (bad_answers line) b before after x = absurd (no_bad_line (halted.Stopp
 
 run_cut : {K : Type 0} (g : Ghosts K) (text input answers : List ℕ) (b : Budgets) (old mid : K) (result : ℕ)
     → EndsAs text input answers b (record { written = g.written old; faults = g.faults old }) (record { written = g.written mid; faults = g.faults mid }) (Ended (Stopped (halted.Stopped stop.SinkFault)))
-    → (result ≡ SINK_FAILED) ⊎ (result ≡ NO_MEMORY) → Finishes g (IsReplyToC text input answers b) old mid result
+    → (result ≡ SINK_FAILED) ⊎ (result ≡ NO_MEMORY) → Finishes g (IsReplyByEnd text input answers b) old mid result
 run_cut g text input answers b old mid result x which =
     let y = cut_in x.program (given_by input answers) b (record { written = g.written old; faults = g.faults old }) (record { written = g.written mid; faults = g.faults mid }) x.ends in
     let s = stop_for y.ran.outcome in
+    let last = c_last_of y.ran.outcome in
     let events = event_text y.ran.world.events in
     let ends : EndsAs text input answers b (took []) (took events) (Ended (Stopped s.stop)) = record { program = x.program; cert = x.cert; reads = x.reads; ends = y.ends s.stop s.outcome } in
-    cut_off g (IsReplyToC text input answers b) (λ r. r ≡ s.last) events old mid result (one_says text input answers b (Ended (Stopped s.stop)) events s.last s.line ends)
+    cut_off g (IsReplyByEnd text input answers b) (λ r. r ≡ last) events old mid result (one_says text input answers b (Ended (Stopped s.stop)) events last s.line ends)
     y.part (λ _. y.rose) which
 
 sink_or_memory : (result : ℕ) (F : Type 0) → ((result ≡ SINK_FAILED) × F) ⊎ (result ≡ NO_MEMORY) → (result ≡ SINK_FAILED) ⊎ (result ≡ NO_MEMORY)
@@ -254,7 +266,7 @@ not_stopped e = cc
 
 none_left : {K : Type 0} (g : Ghosts K) (text input answers : List ℕ) (b : Budgets) (old mid : K) (end : CEnd) (result : ℕ) → end_reply text end ≡ None
     → EndsAs text input answers b (record { written = g.written old; faults = g.faults old }) (record { written = g.written mid; faults = g.faults mid }) end
-    → ((result ≡ SINK_FAILED) × (end ≡ Ended (Stopped (halted.Stopped stop.SinkFault)))) ⊎ (result ≡ NO_MEMORY) → Finishes g (IsReplyToC text input answers b) old mid result
+    → ((result ≡ SINK_FAILED) × (end ≡ Ended (Stopped (halted.Stopped stop.SinkFault)))) ⊎ (result ≡ NO_MEMORY) → Finishes g (IsReplyByEnd text input answers b) old mid result
 none_left g text input answers b old mid (Unread (error.Unexpected at)) result none ends which = absurd (some_none _ none)
 none_left g text input answers b old mid (Unread error.EndOfText) result none ends which = absurd (some_none _ none)
 none_left g text input answers b old mid (Unread (error.Kind rule at)) result none ends which = absurd (some_none _ none)
@@ -275,7 +287,7 @@ none_left g text input answers b old mid (Ended (Stopped (halted.Stopped stop.Si
     run_cut g text input answers b old mid result ends (sink_or_memory result _ which)
 none_left g text input answers b old mid (Ended (Stopped (halted.Undefined rule n))) result none ends which = absurd (some_none _ none)
 none_left g text input answers b old mid (Ended Memory) result none ends which =
-    memory_wanting g (IsReplyToC text input answers b) old mid (Ended Memory) result
+    memory_wanting g (IsReplyByEnd text input answers b) old mid (Ended Memory) result
     (untouched_grew (record { written = g.written old; faults = g.faults old }) (record { written = g.written mid; faults = g.faults mid }) ends) not_stopped which
 
 -- a stop that runs of the source have too is told as theirs
@@ -292,14 +304,14 @@ stops_c g s old new status h = by (stop_line s) h
 -- a run ended so, and its last line was written
 pub c_ended : {K : Type 0} (g : Ghosts K) (text input answers : List ℕ) (b : Budgets) (old mid new : K) (end : CEnd) (result : ℕ)
     → EndsAs text input answers b (record { written = g.written old; faults = g.faults old }) (record { written = g.written mid; faults = g.faults mid }) end
-    → EndsC g text end mid new result → Finishes g (IsReplyToC text input answers b) old new result
+    → EndsC g text end mid new result → Finishes g (IsReplyByEnd text input answers b) old new result
 c_ended g text input answers b old mid new end result ends last = by_last (end_reply text end) refl last
   where
     by_last : (o : Option Reply) → end_reply text end ≡ o
         → MatchOption o ((new ≡ mid) × (((result ≡ SINK_FAILED) × (end ≡ Ended (Stopped (halted.Stopped stop.SinkFault)))) ⊎ (result ≡ NO_MEMORY))) (λ l. Finishes g (λ r. r ≡ l) mid new result)
-        → Finishes g (IsReplyToC text input answers b) old new result
+        → Finishes g (IsReplyByEnd text input answers b) old new result
     by_last (Some l) line f = last_written g text input answers b old mid new end result l line ends f
-    by_last None none (same, which) = subst (λ k. Finishes g (IsReplyToC text input answers b) old k result) (sym same) (none_left g text input answers b old mid end result none ends which)
+    by_last None none (same, which) = subst (λ k. Finishes g (IsReplyByEnd text input answers b) old k result) (sym same) (none_left g text input answers b old mid end result none ends which)
 
 -- what is told of an end lies in the text
 pub tellable : RefusalsAreInTheText → (text input answers : List ℕ) (b : Budgets) (before after : Outside) (end : CEnd) → EndsAs text input answers b before after end → IsTellableEnd text end
@@ -349,7 +361,7 @@ c_limit text e n same is = subst (IsUnread text) same is.reads
 -- ---- the bytes of the files
 
 pub same_files : {K : Type 0} (g : Ghosts K) (text input answers text' input' answers' : List ℕ) (b : Budgets) (old new : K) (result : ℕ) → text ≡ text' → input ≡ input' → answers ≡ answers'
-    → Finishes g (IsReplyToC text input answers b) old new result → Finishes g (IsReplyToC text' input' answers' b) old new result
+    → Finishes g (IsReplyByEnd text input answers b) old new result → Finishes g (IsReplyByEnd text' input' answers' b) old new result
 same_files g text input answers text' input' answers' b old new result t i a f =
-    subst (λ x. Finishes g (IsReplyToC x input' answers' b) old new result) t
-    (subst (λ x. Finishes g (IsReplyToC text x answers' b) old new result) i (subst (λ x. Finishes g (IsReplyToC text input x b) old new result) a f))
+    subst (λ x. Finishes g (IsReplyByEnd x input' answers' b) old new result) t
+    (subst (λ x. Finishes g (IsReplyByEnd text x answers' b) old new result) i (subst (λ x. Finishes g (IsReplyByEnd text input x b) old new result) a f))

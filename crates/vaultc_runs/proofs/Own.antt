@@ -4,11 +4,13 @@ use Rattle.std.specs.Prelude.{◌≢◌, Result, Ok, Err}
 use Rattle.vlt_base.specs.declared.Budgets.{Budgets}
 use Rattle.vlt_core.specs.Core.{Program}
 use Rattle.vlt_meaning.specs.World.{Outcome, done, trap, fuel_end, heap_end, depth_end, input_end, answers_end, bad_answer, fault}
-use Rattle.vlt_numbers.specs.Given.Given.{Given, numbers, bad_input, bad_answers}
+use Rattle.vlt_numbers.specs.Given.Given.{Given, numbers, bad_input, bad_answers, given_by}
 use Rattle.vlt_host_meaning.specs.Calls.{HostCall}
 use Rattle.vlt_host_meaning.specs.HostRun.{HostOutcome, ended, bad_call}
 use Rattle.vlt_lexer.specs.declared.LexError.TheVariants as lex
 use Rattle.vlt_syntax.specs.Refusals.{unexpected_at, over_limit, ended}
+use Rattle.c_syntax.specs.C as c
+use Rattle.c_meaning.specs.World as cw
 use Rattle.c_interp.specs.declared.stop.CStop.{CStop}
 use Rattle.c_interp.specs.declared.stop.CStop.TheVariants.{Stopped, Undefined}
 use Rattle.vlt_steps.specs.declared.stop.Stop.TheVariants as stop
@@ -18,10 +20,11 @@ use Rattle.c_reader.specs.declared.error.CError.TheVariants as error
 use Rattle.c_interp.specs.declared.runs.end.CEnd.{CEnd}
 use Rattle.c_interp.specs.declared.runs.end.CEnd.TheVariants.{Unread, Ended}
 use Rattle.vaultc_runs.specs.declared.status.TheConstants.{NO_COMMAND, UNREAD}
-use Rattle.vaultc_runs.specs.CRuns.{IsReplyToC, c_refusal, stop_reply, end_reply}
+use Rattle.vaultc_runs.specs.CRuns.{c_refusal, c_last_of, IsReplyToCOverNumbers, IsReplyToCProgram, IsReplyToC}
 use Rattle.vaultc_runs.specs.Lines.{Reply}
 use Rattle.vaultc_runs.specs.Runs.{last_of, IsReplyOverNumbers, IsReplyToProgram}
 use Rattle.vaultc_runs.specs.HostRuns.{host_last_of, IsReplyToCallsOver, IsReplyToCalls, IsReplyToHost}
+use Rattle.vaultc_runs.specs.Shown.{stop_reply, end_reply}
 use Rattle.vaultc_runs.specs.Texts.{Refusal, unlexed, unparsed, refusal_reply}
 
 -- neither that of words that are no command nor that of a file that wasn't read
@@ -127,5 +130,26 @@ own_c_end text (Ended end.TooWide) r e = own_last _ r e (own 5 (omega arith))
 own_c_end text (Ended (end.Stopped s)) r e = own_stop s r e
 own_c_end text (Ended end.Memory) r e = absurd (no_last r e)
 
+own_c_outcome : (o : cw.Outcome) → IsOwn (c_last_of o).status
+own_c_outcome cw.done = own_zero
+own_c_outcome (cw.trap t) = own 9 (omega arith)
+own_c_outcome cw.fuel_end = own 10 (omega arith)
+own_c_outcome cw.heap_end = own 10 (omega arith)
+own_c_outcome cw.depth_end = own 10 (omega arith)
+own_c_outcome cw.input_end = own 11 (omega arith)
+own_c_outcome cw.answers_end = own 11 (omega arith)
+own_c_outcome (cw.bad_answer n) = own 11 (omega arith)
+own_c_outcome (cw.undefined rule statement) = own 13 (omega arith)
+
+own_c_over_numbers : (p : c.Program) (input : List ℤ) (answers : List (List ℤ)) (b : Budgets) (r : Reply) → IsReplyToCOverNumbers p input answers b r → IsOwn r.status
+own_c_over_numbers p input answers b r (inl (wide, same)) = own_as r _ same (own 5 (omega arith))
+own_c_over_numbers p input answers b r (inr (fits, same)) = own_as r _ same (own_c_outcome _)
+
+own_c_program : (p : c.Program) (given : Given) (b : Budgets) (r : Reply) → IsReplyToCProgram p given b r → IsOwn r.status
+own_c_program p (numbers input answers) b r is = own_c_over_numbers p input answers b r is
+own_c_program p (bad_input line) b r is = own_as r _ is (own 6 (omega arith))
+own_c_program p (bad_answers line) b r is = own_as r _ is (own 6 (omega arith))
+
 pub own_c : (text input answers : List ℕ) (b : Budgets) (r : Reply) → IsReplyToC text input answers b r → IsOwn r.status
-own_c text input answers b r is = own_as r _ is.whole (own_c_end text is.end is.last is.last_is)
+own_c text input answers b r (inl (e, is, line)) = own_c_refusal text e r line
+own_c text input answers b r (inr (p, cert, reads, is)) = own_c_program p (given_by input answers) b r is

@@ -1,20 +1,20 @@
 -- What `crun` replies to a C text, over files of numbers.
-use Rattle.std.specs.Prelude.{◌≡◌, ℕ, List, [], ◌++◌, Option, Some, None, codes}
+use Rattle.std.specs.Prelude.{◌≡◌, ◌⊎◌, ℕ, ℤ, List, [], ◌++◌, Option, Some, None, codes}
 use Rattle.std.specs.Fmt.{decimal}
 use Rattle.vlt_base.specs.declared.Budgets.{Budgets}
-use Rattle.vlt_steps.specs.Writing.{Outside}
-use Rattle.c_interp.specs.declared.stop.CStop.{CStop}
-use Rattle.c_interp.specs.declared.stop.CStop.TheVariants.{Stopped, Undefined}
+use Rattle.vlt_base.specs.declared.limits.TheConstants.{VALUE_SLOTS}
+use Rattle.vlt_base.specs.declared.places.Span.{Span}
+use Rattle.vlt_numbers.specs.Given.Given.{Given, numbers, bad_input, bad_answers, given_by}
+use Rattle.c_syntax.specs.C.{Program}
+use Rattle.c_syntax.specs.Reading.{IsCProgramOf}
+use Rattle.c_meaning.specs.World.{Outcome, done, trap, fuel_end, heap_end, depth_end, input_end, answers_end, bad_answer, undefined, Ran, event_text}
+use Rattle.c_meaning.specs.Run.{c_run}
+use Rattle.c_reader.specs.Reads.{IsUnread}
 use Rattle.c_reader.specs.declared.error.CError.{CError}
 use Rattle.c_reader.specs.declared.error.CError.TheVariants as error
-use Rattle.c_interp.specs.declared.runs.end.CEnd.{CEnd}
-use Rattle.c_interp.specs.declared.runs.end.CEnd.TheVariants.{Unread, Ended}
-use Rattle.c_interp.specs.Runs.Ends.{EndsAs}
-use Rattle.vaultc_runs.specs.declared.status.TheConstants.{NO_TEXT, UNDEFINED}
-use Rattle.vaultc_runs.specs.Lines.{Reply, reply, over_reply, place_reply, following}
-use Rattle.vaultc_runs.specs.Runs.{stop_line, end_line}
-
--- ---- the last line of each end, with the status
+use Rattle.c_interp.specs.Runs.Ends.{IsTooWide}
+use Rattle.vaultc_runs.specs.declared.status.TheConstants.{DONE, NO_TEXT, TRAPPED, OUT_OF_BUDGET, OUT_OF_NUMBERS, UNDEFINED}
+use Rattle.vaultc_runs.specs.Lines.{Reply, reply, over_reply, place_reply, numbers_reply, trap_line, bad_answer_line, following}
 
 -- why a text stands for no program; want of memory is no reason
 abbrev pub c_refusal : (text : List ℕ) → CError → Option Reply
@@ -30,26 +30,36 @@ at_statement what statement = what ++ codes " at " ++ decimal statement ++ codes
 abbrev pub undefined_line : (rule statement : ℕ) → List ℕ
 undefined_line rule statement = at_statement (codes "undefined " ++ decimal rule) statement
 
--- a stop that runs of the source have too is told as theirs
-abbrev pub stop_reply : CStop → Option Reply
-stop_reply (Stopped stop) = stop_line stop
-stop_reply (Undefined rule statement) = Some (reply UNDEFINED (undefined_line rule statement))
+-- the last line of each outcome, with the status
+abbrev pub c_last_of : Outcome → Reply
+c_last_of done = reply DONE []
+c_last_of (trap t) = reply TRAPPED (trap_line t)
+c_last_of fuel_end = reply OUT_OF_BUDGET (codes "budget fuel\n")
+c_last_of heap_end = reply OUT_OF_BUDGET (codes "budget heap\n")
+c_last_of depth_end = reply OUT_OF_BUDGET (codes "budget depth\n")
+c_last_of input_end = reply OUT_OF_NUMBERS (codes "input ended\n")
+c_last_of answers_end = reply OUT_OF_NUMBERS (codes "answers ended\n")
+c_last_of (bad_answer n) = reply OUT_OF_NUMBERS (bad_answer_line n)
+c_last_of (undefined rule statement) = reply UNDEFINED (undefined_line rule statement)
 
-abbrev pub end_reply : (text : List ℕ) → CEnd → Option Reply
-end_reply text (Unread e) = c_refusal text e
-end_reply text (Ended end) = end_line stop_reply end
+-- the text of a run's events, and then the last line of its outcome
+abbrev pub IsReplyToCRan : Ran → Reply → Type 0
+IsReplyToCRan ran r = r ≡ following (event_text ran.world.events) (c_last_of ran.outcome)
 
--- ---- a whole run
+-- over input numbers and answers; the frames and blocks of the budgets may not fit into a machine
+abbrev pub IsReplyToCOverNumbers : Program → (input : List ℤ) → (answers : List (List ℤ)) → Budgets → Reply → Type 0
+IsReplyToCOverNumbers p input answers b r =
+    (IsTooWide p b × (r ≡ over_reply VALUE_SLOTS))
+    ⊎ ((IsTooWide p b → ⊥) × IsReplyToCRan (c_run p b.fuel b.heap b.depth input answers) r)
 
--- a sink that takes all, with what was written to it
-abbrev pub took : List ℕ → Outside
-took bytes = record { written = Some bytes; faults = 0 }
+-- over what the files of numbers give
+abbrev pub IsReplyToCProgram : Program → Given → Budgets → Reply → Type 0
+IsReplyToCProgram p (numbers input answers) b r = IsReplyToCOverNumbers p input answers b r
+IsReplyToCProgram p (bad_input line) b r = r ≡ numbers_reply (codes "input") line
+IsReplyToCProgram p (bad_answers line) b r = r ≡ numbers_reply (codes "answers") line
 
--- `crun` may end so over a sink that takes all: it writes the events, and then comes the last line of the end
-pub record IsReplyToC (text input answers : List ℕ) (b : Budgets) (r : Reply) : Type 0 where
-  pub end : CEnd
-  pub events : List ℕ
-  pub ends : EndsAs text input answers b (took []) (took events) end
-  pub last : Reply
-  pub last_is : end_reply text end ≡ Some last
-  pub whole : r ≡ following events last
+-- a text is refused, or stands for a program
+abbrev pub IsReplyToC : (text input answers : List ℕ) → Budgets → Reply → Type 0
+IsReplyToC text input answers b r =
+    ((e : CError) × IsUnread text e × (c_refusal text e ≡ Some r))
+    ⊎ ((p : Program) × (cert : Option Span) × IsCProgramOf text p cert × IsReplyToCProgram p (given_by input answers) b r)

@@ -1,5 +1,5 @@
 -- What a run of an accepted program replies.
-use Rattle.std.specs.Prelude.{◌≡◌, ◌⊎◌, ℤ, List, [], Option, Some, None, codes}
+use Rattle.std.specs.Prelude.{◌≡◌, ◌⊎◌, ℕ, ℤ, List, [], Option, Some, None, codes}
 use Rattle.std.specs.Option.{option_and_then}
 use Rattle.vlt_base.specs.declared.Budgets.{Budgets}
 use Rattle.vlt_base.specs.declared.limits.TheConstants.{VALUE_SLOTS}
@@ -14,6 +14,11 @@ use Rattle.vlt_acts.specs.Hosts.Stops.{outcome_of}
 use Rattle.vlt_interp.specs.Runs.Ends.{IsTooWide}
 use Rattle.vaultc_runs.specs.declared.status.TheConstants.{DONE, TRAPPED, OUT_OF_BUDGET, OUT_OF_NUMBERS}
 use Rattle.vaultc_runs.specs.Lines.{Reply, reply, over_reply, trap_line, numbers_reply, bad_answer_line, following}
+
+-- the status of a run that came to its end, in one way or another
+abbrev pub IsOfARun : (status : ℕ) → Type 0
+IsOfARun status =
+    (status ≡ DONE) ⊎ (status ≡ TRAPPED) ⊎ (status ≡ OUT_OF_BUDGET) ⊎ (status ≡ OUT_OF_NUMBERS)
 
 -- the last line of each outcome, with the status; a fault has none, and no run of an accepted program ends in one
 abbrev pub last_of : Outcome → Option Reply

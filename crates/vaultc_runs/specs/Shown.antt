@@ -9,7 +9,7 @@ use Rattle.vlt_steps.specs.declared.stop.Stop.TheVariants.{SinkFault}
 use Rattle.vlt_steps.specs.declared.end.RunEnd.{RunEnd}
 use Rattle.vlt_steps.specs.declared.end.RunEnd.TheVariants as end
 use Rattle.vlt_io.specs.declared.sink.Sink.{Ghosts}
-use Rattle.vaultc_runs.specs.declared.status.TheConstants.{SINK_FAILED, NO_MEMORY}
+use Rattle.vaultc_runs.specs.declared.status.TheConstants.{SINK_FAILED, NO_MEMORY, UNDEFINED}
 use Rattle.vaultc_runs.specs.Finishes.{Finishes}
 use Rattle.vaultc_runs.specs.Runs.{stop_line, end_line, IsReplyToProgram}
 use Rattle.vaultc_runs.specs.HostRuns.{bad_calls_reply, host_stop_line, IsReplyToHost}
@@ -25,12 +25,12 @@ use Rattle.vlt_host.specs.declared.error.CallsError.TheVariants as calls_error
 use Rattle.vlt_host.specs.declared.runs.stop.HostStop.{HostStop}
 use Rattle.vlt_host.specs.declared.runs.stop.HostStop.TheVariants as host
 use Rattle.c_interp.specs.declared.stop.CStop.{CStop}
-use Rattle.c_interp.specs.declared.stop.CStop.TheVariants.{Stopped}
+use Rattle.c_interp.specs.declared.stop.CStop.TheVariants.{Stopped, Undefined}
 use Rattle.c_reader.specs.Reads.{IsUnread, IsWithin}
 use Rattle.c_reader.specs.declared.error.CError.{CError}
 use Rattle.c_interp.specs.declared.runs.end.CEnd.{CEnd}
 use Rattle.c_interp.specs.declared.runs.end.CEnd.TheVariants as ended
-use Rattle.vaultc_runs.specs.CRuns.{end_reply, stop_reply}
+use Rattle.vaultc_runs.specs.CRuns.{c_refusal, undefined_line}
 use Rattle.vaultc_words.specs.Sources.{IsOver}
 use Rattle.vaultc_runs.specs.declared.text_error.TextError.{TextError}
 use Rattle.vaultc_runs.specs.declared.text_error.TextError.TheVariants as error
@@ -112,6 +112,15 @@ pub record IsReasonOf (text : List ℕ) (e : CError) : Type 0 where
 abbrev pub IsTellableEnd : (text : List ℕ) → CEnd → Type 0
 IsTellableEnd text (ended.Unread e) = IsReasonOf text e
 IsTellableEnd text e = Unit {0}
+
+-- the last line where a machine stopped so: a stop that runs of the source have too is told as theirs
+abbrev pub stop_reply : CStop → Option lines.Reply
+stop_reply (Stopped stop) = stop_line stop
+stop_reply (Undefined rule statement) = Some (lines.reply UNDEFINED (undefined_line rule statement))
+
+abbrev pub end_reply : (text : List ℕ) → CEnd → Option lines.Reply
+end_reply text (ended.Unread e) = c_refusal text e
+end_reply text (ended.Ended e) = end_line stop_reply e
 
 -- How the last line of a C run is written, by how the machine stopped: where it has a last line, that one; else nothing, the
 -- sink having failed.

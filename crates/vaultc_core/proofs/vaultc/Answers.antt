@@ -2,8 +2,10 @@ use Rattle.std.proofs.Common.{map}
 use Rattle.std.specs.Prelude.{string_bytes}
 use Rattle.vaultc_words.specs.Commands.{command_of}
 use Rattle.vaultc_replies.proofs.Promises.{GoRight, promised, accepts}
-use Rattle.vaultc_core.proofs.Compiles.{Laws, compiled}
+use Rattle.vaultc_core.proofs.EmittedFiles.{FileLaws}
+use Rattle.vaultc_core.proofs.Compiles.{compiled}
 use Rattle.vaultc_core.proofs.Verifies.{verified}
+use Rattle.vaultc_replies.proofs.Runs.{ran}
 use Rattle.vaultc_replies.proofs.Hosts.{GoRightForHosts, hosted}
 use Rattle.vaultc_replies.proofs.Linked.{LinkLaws}
 use Rattle.vaultc_core.proofs.Linking.{linked}
@@ -33,19 +35,27 @@ returns-clause-promised g c =
 
 pub returns-clause-compiled : goal.returns-clause-compiled
 returns-clause-compiled g c =
-    let laws : Laws = record {
-      trees = c.texts_have_text_trees.ensures;
+    let laws : FileLaws = record {
       alike = c.trees_are_lowered_rightly.ensures.alike;
       defined = c.trees_are_lowered_rightly.ensures.defined;
       again = c.accepted_texts_are_read_again.ensures;
       verify = c.emitted_files_verify.ensures;
     } in
-    compiled laws g.S.Store g.K.Sink c.args.store.now c.carry_out.new.store c.args.out.now c.carry_out.new.out
+    compiled (record { trees = c.texts_have_text_trees.ensures; files = laws }) g.S.Store g.K.Sink c.args.store.now c.carry_out.new.store c.args.out.now c.carry_out.new.out
     (command_of (map string_bytes c.args.words.now)) c.carry_out.result c.carry_out.ensures.finishes
 
 pub returns-clause-verified : goal.returns-clause-verified
 returns-clause-verified g c =
     verified c.verified_files_keep_their_promise.ensures g.S.Store g.K.Sink c.args.store.now c.carry_out.new.store c.args.out.now c.carry_out.new.out
+    (command_of (map string_bytes c.args.words.now)) c.carry_out.result c.carry_out.ensures.finishes
+
+pub returns-clause-ran : goal.returns-clause-ran
+returns-clause-ran g c =
+    let right : GoRight = record {
+      never = c.accepted_programs_go_right.ensures.never;
+      leaves = c.accepted_programs_go_right.ensures.leaves;
+    } in
+    ran c.programs_are_fit.ensures c.texts_have_text_trees.ensures right g.S.Store c.args.store.now c.carry_out.new.store g.K.Sink c.args.out.now c.carry_out.new.out
     (command_of (map string_bytes c.args.words.now)) c.carry_out.result c.carry_out.ensures.finishes
 
 pub returns-clause-hosted : goal.returns-clause-hosted
@@ -64,8 +74,7 @@ returns-clause-linked g c =
       never = c.accepted_programs_go_right.ensures.never;
       leaves = c.accepted_programs_go_right.ensures.leaves;
     } in
-    let laws : Laws = record {
-      trees = c.texts_have_text_trees.ensures;
+    let laws : FileLaws = record {
       alike = c.trees_are_lowered_rightly.ensures.alike;
       defined = c.trees_are_lowered_rightly.ensures.defined;
       again = c.accepted_texts_are_read_again.ensures;
