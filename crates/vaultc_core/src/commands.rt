@@ -20,15 +20,15 @@ ghost use Rattle.vaultc_replies.specs.Judged.{IsJudged};
 ghost use Rattle.vaultc_runs.specs.Shown.{IsReplyToCaller, IsShortCaller, shown_reply};
 ghost use Rattle.vaultc_replies.specs.Modules.{file_with, IsReplyToModule, IsReplyToLink};
 
-use crate::emit::{accepted, compiled};
+use crate::emit::{accepted_program, emit_reply};
 use crate::explain::explained;
 use crate::judged::judge_text;
 use crate::links::link_reply;
 use crate::load::load;
 use std::alloc::{AllocError, Global};
-use vaultc_replies::{NamedText, module_reply, read_tree, verdict, verified};
+use vaultc_replies::{NamedText, module_reply, read_tree, verdict, verify_reply};
 use vaultc_runs::{
-    Caller, NO_COMMAND, NO_MEMORY, Reply, USAGE, finish, finish_reply, laid_out, not_had,
+    Caller, NO_COMMAND, NO_MEMORY, Reply, USAGE, finish, finish_reply, fmt_reply, not_had,
     not_had_in, refusal, run_c, run_host, run_program,
 };
 use vaultc_words::{
@@ -73,7 +73,7 @@ fn reply_to_explain(alloc: Global, bytes: &[u8]) -> Result<Reply, AllocError>
     match read_tree(alloc, bytes) {
         Ok(tree) => {
             let judged = judge_text(alloc, &tree)?;
-            explained(alloc, bytes, &tree, &judged)
+            explain_reply(alloc, bytes, &tree, &judged)
         }
         Err(error) => refusal(alloc, bytes, error),
     }
@@ -86,7 +86,7 @@ fn reply_to_fmt(alloc: Global, bytes: &[u8]) -> Result<Reply, AllocError>
         IsReplyToText (c.fmt file) bytes.now (shown_reply r)) }
 {
     match read_tree(alloc, bytes) {
-        Ok(tree) => laid_out(alloc, &tree),
+        Ok(tree) => fmt_reply(alloc, &tree),
         Err(error) => refusal(alloc, bytes, error),
     }
 }
@@ -100,7 +100,7 @@ fn reply_to_emit(alloc: Global, bytes: &[u8]) -> Result<Reply, AllocError>
     match read_tree(alloc, bytes) {
         Ok(tree) => {
             let judged = judge_text(alloc, &tree)?;
-            compiled(alloc, bytes, &tree, &judged)
+            emit_reply(alloc, bytes, &tree, &judged)
         }
         Err(error) => refusal(alloc, bytes, error),
     }
@@ -155,7 +155,7 @@ fn run_judged<K: Sink>(
     kinded_programs_name_their_own();
     hosts_of_accepted_programs_go_right();
     accepted_programs_are_callable();
-    match accepted(judged) {
+    match accepted_program(judged) {
         Some(program) => run_accepted(alloc, caller, program, files, budgets, out),
         None => finish_reply(out, verdict(alloc, files.text.as_slice(), judged)),
     }
@@ -226,7 +226,7 @@ fn reply_to_verify<S: Store, K: Sink>(alloc: Global, name: &str, store: &mut S, 
         out.old out.new result }
 {
     match read_file(alloc, store, name, C_BYTES) {
-        Ok(bytes) => finish_reply(out, verified(alloc, bytes.as_slice())),
+        Ok(bytes) => finish_reply(out, verify_reply(alloc, bytes.as_slice())),
         Err(error) => finish_reply(out, not_had(alloc, error)),
     }
 }

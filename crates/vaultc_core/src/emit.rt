@@ -24,7 +24,7 @@ use vlt_syntax::Tree;
 use vlt_verdict::Verdict;
 
 /// The program, where the verdict is that it follows all rules.
-pub fn accepted(judged: &Verdict) -> Option<&Program>
+pub fn accepted_program(judged: &Verdict) -> Option<&Program>
     ensures some { IfSome result (λ p. judged.now ≡ Accepted p.now) }
     ensures none { IfNone result (is_accepted judged.now ≡ false) }
 {
@@ -50,7 +50,7 @@ fn certificate(alloc: Global, program: &Program) -> Result<Vec<u8>, AllocError>
 }
 
 /// The C file of the program of a text.
-pub fn emitted(alloc: Global, program: &Program) -> Result<Reply, AllocError>
+pub fn certified_file(alloc: Global, program: &Program) -> Result<Reply, AllocError>
     requires { IsCompilable (program_of program.now) }
     ensures { IfOk result (λ r. e.IsEmitted (program_of program.now) (shown_reply r)) }
 {
@@ -59,7 +59,7 @@ pub fn emitted(alloc: Global, program: &Program) -> Result<Reply, AllocError>
 }
 
 /// What `emit` says of a verdict on a text.
-pub fn compiled(
+pub fn emit_reply(
     alloc: Global,
     text: &[u8],
     tree: &Tree,
@@ -74,8 +74,8 @@ pub fn compiled(
 {
     programs_are_fit();
     texts_have_text_trees();
-    match accepted(judged) {
-        Some(program) => emitted(alloc, program),
+    match accepted_program(judged) {
+        Some(program) => certified_file(alloc, program),
         None => verdict(alloc, text, judged),
     }
 }

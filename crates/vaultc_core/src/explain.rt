@@ -89,7 +89,7 @@ fn shown_fault(
 }
 
 /// What `explain` says of a verdict on a text and its tree.
-pub fn explained(
+pub fn explain_reply(
     alloc: Global,
     text: &[u8],
     tree: &Tree,

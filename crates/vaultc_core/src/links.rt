@@ -8,7 +8,7 @@ ghost use Rattle.vaultc_runs.specs.Shown.{shown_reply};
 use crate::emit::emitted;
 use cert_text_laws::joined_programs_are_of_texts;
 use std::alloc::{AllocError, Global};
-use vaultc_replies::{Last, NamedText, Parsed, joined, parse, program_in, tested};
+use vaultc_replies::{Last, NamedText, Parsed, joined_tree, parse, program_in, view_program};
 use vaultc_runs::Reply;
 use vlt_fit_laws::programs_are_fit;
 use vlt_view_verdict::accepted_modules_link;
@@ -31,11 +31,11 @@ fn link_parsed(
     programs_are_fit();
     accepted_modules_link();
     joined_programs_are_of_texts();
-    tested(alloc, interface, first, false)?;
-    tested(alloc, interface, second, true)?;
-    let tree = joined(alloc, interface, first, second)?;
+    view_program(alloc, interface, first, false)?;
+    view_program(alloc, interface, second, true)?;
+    let tree = joined_tree(alloc, interface, first, second)?;
     let program = program_in(alloc, &tree)?;
-    Ok(emitted(alloc, &program)?)
+    Ok(certified_file(alloc, &program)?)
 }
 
 /// The steps of `link`.

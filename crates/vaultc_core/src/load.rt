@@ -14,7 +14,7 @@ ghost use Rattle.vaultc_replies.specs.Judged.{IsJudged};
 ghost use Rattle.vaultc_runs.specs.Shown.{shown_reply};
 ghost use Rattle.vaultc_runs.specs.Texts.{IsTextOf};
 
-use crate::emit::{accepted, emitted};
+use crate::emit::{accepted_program, certified_file};
 use crate::judged::judge_text;
 use crate::trial::try_file;
 use std::alloc::{AllocError, Global};
@@ -39,7 +39,7 @@ fn compile_and_run<K: Sink>(alloc: Global, made: &Generated, program: &Program, 
         (IsLoaded made.now.functions made.now.text.items (program_of program.now))
         out.old out.new result }
 {
-    let Ok(file) = emitted(alloc, program) else {
+    let Ok(file) = certified_file(alloc, program) else {
         return NO_MEMORY;
     };
     let text = file.text.as_slice();
@@ -73,7 +73,7 @@ fn load_judged<K: Sink>(
     accepted_programs_go_right();
     accepted_programs_know_their_calls();
     kinded_programs_name_their_own();
-    match accepted(judged) {
+    match accepted_program(judged) {
         Some(program) => compile_and_run(alloc, made, program, out),
         None => finish_reply(out, verdict(alloc, made.text.as_slice(), judged)),
     }

@@ -37,7 +37,11 @@ fn file_reply(alloc: Global, program: &CProgram, certificate: &[u8]) -> Result<R
 }
 
 /// What is said where there is no C program, for this reason.
-fn unlowered(alloc: Global, program: &Program, error: LowerError) -> Result<Reply, AllocError>
+fn lowering_refusal(
+    alloc: Global,
+    program: &Program,
+    error: LowerError,
+) -> Result<Reply, AllocError>
     requires few { gives_many_cases (program_of program.now) ≡ false }
     requires refused { Refuses (program_of program.now) error }
     ensures over { IfOk result (λ r. shown_reply r ≡ l.over_reply C_BYTES) }
@@ -58,6 +62,6 @@ pub fn c_file(alloc: Global, program: &Program, certificate: &[u8]) -> Result<Re
 {
     match lower(alloc, program) {
         Ok(lowered) => file_reply(alloc, &lowered, certificate),
-        Err(error) => unlowered(alloc, program, error),
+        Err(error) => lowering_refusal(alloc, program, error),
     }
 }

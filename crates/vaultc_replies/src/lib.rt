@@ -13,7 +13,9 @@ mod verify;
 
 pub use c_files::c_file;
 pub use load_runs::run_compiled;
-pub use modules::{Last, NamedText, Parsed, joined, module_reply, parse, program_in, tested};
+pub use modules::{
+    Last, NamedText, Parsed, joined_tree, module_reply, parse, program_in, view_program,
+};
 pub use source::read_tree;
 pub use variables::variable_in;
 pub use verdicts::verdict;

@@ -202,7 +202,7 @@ fn view(alloc: Global, interface: &Parsed<'_>, own: &Parsed<'_>) -> Result<View,
 }
 
 /// The program of an interface with a module, where it follows all rules, that on `main` only where one is wanted.
-pub fn tested(
+pub fn view_program(
     alloc: Global,
     interface: &Parsed<'_>,
     own: &Parsed<'_>,
@@ -243,7 +243,7 @@ fn module_steps(alloc: Global, interface: NamedText<'_>, own: NamedText<'_>) -> 
 {
     let interface = parse(alloc, interface)?;
     let own = parse(alloc, own)?;
-    let program = tested(alloc, &interface, &own, false)?;
+    let program = view_program(alloc, &interface, &own, false)?;
     Ok(module_line(alloc, &program)?)
 }
 
@@ -280,7 +280,7 @@ fn clash(alloc: Global, name: &[u8]) -> Result<Reply, AllocError>
 }
 
 /// The joined tree of an interface and two modules.
-pub fn joined(
+pub fn joined_tree(
     alloc: Global,
     interface: &Parsed<'_>,
     first: &Parsed<'_>,

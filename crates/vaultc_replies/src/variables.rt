@@ -21,7 +21,7 @@ fn state_variable(clause: &[Entry]) -> &[u8]
     &[]
 }
 
-/// The same of a function's head.
+/// The name that a head has for the state of a bound entry's object; empty where its clause has no such entry, or it has no clause.
 fn variable_of(head: &Head) -> &[u8]
     ensures { result.now ≡ head_variable (Some (view.head_of head.now)) }
 {

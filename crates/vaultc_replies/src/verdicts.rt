@@ -16,7 +16,7 @@ use vlt_reports as reports;
 use vlt_verdict::Verdict;
 
 /// The first fault of a program.
-fn faulty(
+fn fault_reply(
     alloc: Global,
     text: &[u8],
     program: &Program,
@@ -50,7 +50,7 @@ pub fn verdict(alloc: Global, text: &[u8], verdict: &Verdict) -> Result<Reply, A
             text: reports::kind(alloc, text, *rule, *at)?,
         }),
         Verdict::Exceeded(number) => over_limit(alloc, *number),
-        Verdict::Faulty(program, fault) => faulty(alloc, text, program, *fault),
+        Verdict::Faulty(program, fault) => fault_reply(alloc, text, program, *fault),
         Verdict::Accepted(program) => Ok(Reply {
             status: DONE,
             text: reports::accepted(alloc, program)?,

@@ -12,7 +12,7 @@ use std::alloc::{AllocError, Global};
 use vaultc_runs::{DONE, REFUSED, Reply, over_limit};
 
 /// A part of the verification fails, which has this number and so on.
-fn refused(alloc: Global, part: &str) -> Result<Reply, AllocError>
+fn refused_reply(alloc: Global, part: &str) -> Result<Reply, AllocError>
     ensures { IfOk result (λ r. shown_reply r ≡ refused_reply part.now) }
 {
     Ok(Reply {
@@ -22,11 +22,11 @@ fn refused(alloc: Global, part: &str) -> Result<Reply, AllocError>
 }
 
 /// A part fails at the statement of a number.
-fn refused_at(alloc: Global, part: &str, statement: u64) -> Result<Reply, AllocError>
+fn refused_at_reply(alloc: Global, part: &str, statement: u64) -> Result<Reply, AllocError>
     ensures { IfOk result (λ r. shown_reply r ≡ refused_at_reply part.now statement) }
 {
     let part = format!(in alloc; "{part} statement {statement}")?;
-    refused(alloc, part.as_str())
+    refused_reply(alloc, part.as_str())
 }
 
 /// A C file doesn't verify, for this reason.
@@ -37,20 +37,20 @@ fn refusal(alloc: Global, text: &[u8], error: VerifyError) -> Result<Reply, Allo
 {
     match error {
         VerifyError::C(CError::Limit(number)) => over_limit(alloc, number),
-        VerifyError::C(_) => refused(alloc, "1"),
-        VerifyError::Certificate => refused(alloc, "2"),
+        VerifyError::C(_) => refused_reply(alloc, "1"),
+        VerifyError::Certificate => refused_reply(alloc, "2"),
         VerifyError::Kind { rule } => {
             let part = format!(in alloc; "3 rule {rule}")?;
-            refused(alloc, part.as_str())
+            refused_reply(alloc, part.as_str())
         }
-        VerifyError::Local(first) => refused_at(alloc, "4", first.statement as u64),
-        VerifyError::NotLowered { statement } => refused_at(alloc, "5", statement),
+        VerifyError::Local(first) => refused_at_reply(alloc, "4", first.statement as u64),
+        VerifyError::NotLowered { statement } => refused_at_reply(alloc, "5", statement),
         VerifyError::Memory => Err(AllocError),
     }
 }
 
 /// What `verify` says of a C file.
-pub fn verified(alloc: Global, text: &[u8]) -> Result<Reply, AllocError>
+pub fn verify_reply(alloc: Global, text: &[u8]) -> Result<Reply, AllocError>
     requires { length text.now < 2 ^ 32 - 1 }
     ensures { IfOk result (λ r. IsReplyToVerify text.now (shown_reply r)) }
 {

@@ -43,7 +43,7 @@ fn refusal(alloc: Global, text: &[u8], error: CError) -> Result<Reply, AllocErro
 }
 
 /// What the run came to at the statement of a number.
-fn came_to(alloc: Global, what: &str, statement: u32) -> Result<Reply, AllocError>
+fn statement_reply(alloc: Global, what: &str, statement: u32) -> Result<Reply, AllocError>
     ensures { IfOk result (λ r.
         shown_reply r ≡ reply UNDEFINED (at_statement what.now statement)) }
 {
@@ -54,12 +54,12 @@ fn came_to(alloc: Global, what: &str, statement: u32) -> Result<Reply, AllocErro
 }
 
 /// A rule is broken at the statement of a number.
-fn undefined(alloc: Global, rule: u8, statement: u32) -> Result<Reply, AllocError>
+fn undefined_reply(alloc: Global, rule: u8, statement: u32) -> Result<Reply, AllocError>
     ensures { IfOk result (λ r.
         shown_reply r ≡ reply UNDEFINED (undefined_line rule statement)) }
 {
     let what = format!(in alloc; "undefined {rule}")?;
-    came_to(alloc, what.as_str(), statement)
+    statement_reply(alloc, what.as_str(), statement)
 }
 
 /// Writes the line after the events of a run that stopped so, and gives the status.
@@ -69,7 +69,7 @@ fn finish_stop<K: Sink>(alloc: Global, out: &mut K, stop: CStop) -> u8
     match stop {
         CStop::Stopped(stop) => runs::finish_stop(alloc, out, stop),
         CStop::Undefined { rule, statement } => {
-            finish_reply(out, undefined(alloc, rule, statement))
+            finish_reply(out, undefined_reply(alloc, rule, statement))
         }
     }
 }

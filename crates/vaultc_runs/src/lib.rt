@@ -16,7 +16,7 @@ mod write;
 pub use c_runs::run_c;
 pub use host_runs::run_host;
 pub use kept::Kept;
-pub use lines::{USAGE, in_file, laid_out, not_had, not_had_in, over_limit, refusal};
+pub use lines::{USAGE, fmt_reply, in_file, not_had, not_had_in, over_limit, refusal};
 pub use reply::Reply;
 pub use runs::{Caller, finish_end, run_program};
 pub use status::{

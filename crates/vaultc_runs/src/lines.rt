@@ -148,7 +148,7 @@ pub fn refusal(alloc: Global, bytes: &[u8], error: TextError) -> Result<Reply, A
 }
 
 /// The layout of a tree.
-pub fn laid_out(alloc: Global, tree: &Tree) -> Result<Reply, AllocError>
+pub fn fmt_reply(alloc: Global, tree: &Tree) -> Result<Reply, AllocError>
     ensures { IfOk result (λ r. shown_reply r ≡ l.reply DONE (layout (tree_of tree.now))) }
 {
     match print(alloc, tree) {

@@ -9,7 +9,7 @@ judge_text-requires-clause-text c = (c.args.bytes.now, c.in-Ok.ensures.ok)
 
 pub returns-in_ok-judged-in-Ok : goal.returns-in_ok-judged-in-Ok
 returns-in_ok-judged-in-Ok c =
-    compiled_said c.args.bytes.now (tree_of c.in-Ok.tree) c.in_ok-judged-in-Ok.judged c.compiled.result c.in-Ok.ensures.ok c.in_ok-judged-in-Ok.ensures.is c.compiled.ensures
+    compiled_said c.args.bytes.now (tree_of c.in-Ok.tree) c.in_ok-judged-in-Ok.judged c.emit_reply.result c.in-Ok.ensures.ok c.in_ok-judged-in-Ok.ensures.is c.emit_reply.ensures
 
 pub returns-in-Err : goal.returns-in-Err
 returns-in-Err c = refused_each (λ file. emit file) c.args.bytes.now (refusal_of c.in-Err.error) c.refusal.result c.in-Err.ensures.refused c.refusal.ensures

@@ -15,11 +15,11 @@ pub returns-in-Ok : goal.returns-in-Ok
 returns-in-Ok g c =
     let bytes = c.in-Ok.bytes.items in
     let command = verify c.args.name.now in
-    finishes_as g.K.Sink (IsReplyOf c.verified.result) (MayReply g.S.Store c.args.store.now c.read_file.new.store (Some command)) c.args.out.now c.finish_reply.new.out c.finish_reply.result
+    finishes_as g.K.Sink (IsReplyOf c.verify_reply.result) (MayReply g.S.Store c.args.store.now c.read_file.new.store (Some command)) c.args.out.now c.finish_reply.new.out c.finish_reply.result
     (λ r is. (
       had (bytes ∷ []),
       c.in-Ok.ensures.read,
-      subst (λ l. IsReplyToVerify l r) c.as_slice.ensures.value (reply_is (IsReplyToVerify c.as_slice.result.now) c.verified.result r c.verified.ensures is),
+      subst (λ l. IsReplyToVerify l r) c.as_slice.ensures.value (reply_is (IsReplyToVerify c.as_slice.result.now) c.verify_reply.result r c.verify_reply.ensures is),
     )) c.finish_reply.ensures
 
 pub returns-in-Err : goal.returns-in-Err

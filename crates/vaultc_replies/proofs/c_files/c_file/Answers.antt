@@ -8,4 +8,4 @@ returns-in-Ok c =
     lowered_file (program_of c.args.program.now) (c_view.program_of c.in-Ok.lowered) c.args.certificate.now c.file_reply.result c.in-Ok.ensures.program c.file_reply.ensures
 
 pub returns-in-Err : goal.returns-in-Err
-returns-in-Err c = unlowered_file (program_of c.args.program.now) c.args.certificate.now c.unlowered.result c.unlowered.ensures.over c.unlowered.ensures.long
+returns-in-Err c = unlowered_file (program_of c.args.program.now) c.args.certificate.now c.lowering_refusal.result c.lowering_refusal.ensures.over c.lowering_refusal.ensures.long

@@ -2,7 +2,7 @@ use Rattle.std.proofs.Common.{sym, subst}
 use Rattle.vlt_core.specs.View.{program_of}
 use Rattle.cert_emit.specs.Certificates.{IsLeastText}
 use Rattle.vaultc_replies.proofs.CFiles.{with_certificate}
-use Rattle.vaultc_core.proofs.emit.emitted.Goals as goal
+use Rattle.vaultc_core.proofs.emit.certified_file.Goals as goal
 
 pub returns : goal.returns
 returns c =
