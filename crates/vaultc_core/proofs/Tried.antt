@@ -57,7 +57,7 @@ counted law p answer (Err e) counts is = tt
 -- ---- its run
 
 -- the outcome in the words of the source's runs
-source_outcome : cw.Outcome → Option source.Outcome
+abbrev source_outcome : cw.Outcome → Option source.Outcome
 source_outcome cw.done = Some source.done
 source_outcome (cw.trap t) = Some (source.trap t)
 source_outcome cw.fuel_end = Some source.fuel_end

@@ -79,6 +79,6 @@ abbrev pub IsReplyToLoaded : (n : ℕ) (text : List ℕ) → Verdict → Reply �
 IsReplyToLoaded n text (accepted p) r = IsLoaded n text p r
 IsReplyToLoaded n text v r = r ≡ check_reply text v
 
--- the same to the tree of the text
+-- what `load` replies to the tree of the text
 abbrev pub IsReplyToLoad : (n : ℕ) (text : List ℕ) → Tree → Reply → Type 0
 IsReplyToLoad n text t r = (v : Verdict) × IsVerdictOf t v × IsReplyToLoaded n text v r

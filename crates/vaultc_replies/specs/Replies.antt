@@ -95,7 +95,7 @@ IsReplyToRead command x r = IsReplyOver (names_files command) (IsReplyToContents
 abbrev pub GoesOn : Reply → Reply → Type 0
 GoesOn front r = (r.status ≡ front.status) × ((more : List ℕ) × (r.text ≡ front.text ++ more))
 
--- the same; but two of `explain` may tell other paths, after the line of a fault that `check` replies
+-- Two replies are the same; but two of `explain` may tell other paths, after the line of a fault that `check` replies.
 abbrev pub AreAlike : Command → Read → Reply → Reply → Type 0
 AreAlike (explain file) x r q =
     (r ≡ q) ⊎ ((line : Reply) × IsReplyToRead (check file) x line × (line.status ≡ NOT_ACCEPTED) × GoesOn line r × GoesOn line q)

@@ -23,7 +23,7 @@ inside_as : {K : Type 0} (g : Ghosts K) (P Q : Reply → Type 0) (old new : K) �
 inside_as g P Q old new more (inl none) = inl none
 inside_as g P Q old new more (inr part) = inr (part_as g (Inside P) (Inside Q) old new (λ r is. (more r is.0, is.1)) part)
 
--- the same, where each reply of the one kind is one of the other
+-- a command ends so with replies of one kind too, where each of the other kind is one of it
 pub finishes_as : {K : Type 0} (g : Ghosts K) (P Q : Reply → Type 0) (old new : K) (status : ℕ) → ((r : Reply) → P r → Q r) → Finishes g P old new status → Finishes g Q old new status
 finishes_as g P Q old new status more f = record {
   whole = λ sink memory. (let x = f.whole sink memory in (x.0, more (reply status x.0) x.1, x.2));

@@ -74,7 +74,8 @@ StopsRun g stop old new status = MatchOption (stop_line stop)
     ((new ≡ old) × ((status ≡ SINK_FAILED) × (stop ≡ SinkFault)))
     (λ last. Finishes g (λ r. r ≡ last) old new status)
 
--- the same by an end; nothing is written either where memory ran out
+-- How the last line of a run is written, by its end: where that has a last line, that one; else nothing, the sink having failed
+-- or memory having run out.
 abbrev pub EndsRun : {K : Type 0} (g : Ghosts K) → RunEnd Stop → (old new : K) → (status : ℕ) → Type 0
 EndsRun g e old new status = MatchOption (end_line stop_line e)
     ((new ≡ old) × (((status ≡ SINK_FAILED) × (e ≡ end.Stopped SinkFault)) ⊎ (status ≡ NO_MEMORY)))
@@ -82,12 +83,13 @@ EndsRun g e old new status = MatchOption (end_line stop_line e)
 
 -- ---- runs for hosts
 
--- the same of runs for hosts
+-- as `StopsRun` of a run for a host
 abbrev pub StopsHost : {K : Type 0} (g : Ghosts K) → HostStop → (old new : K) → (status : ℕ) → Type 0
 StopsHost g stop old new status = MatchOption (host_stop_line stop)
     ((new ≡ old) × ((status ≡ SINK_FAILED) × (stop ≡ host.Stopped SinkFault)))
     (λ last. Finishes g (λ r. r ≡ last) old new status)
 
+-- as `EndsRun` of a run for a host
 abbrev pub EndsHost : {K : Type 0} (g : Ghosts K) → RunEnd HostStop → (old new : K) → (status : ℕ) → Type 0
 EndsHost g e old new status = MatchOption (end_line host_stop_line e)
     ((new ≡ old) × (((status ≡ SINK_FAILED) × (e ≡ end.Stopped (host.Stopped SinkFault))) ⊎ (status ≡ NO_MEMORY)))
@@ -129,7 +131,7 @@ StopsC g stop old new status = MatchOption (stop_reply stop)
     ((new ≡ old) × ((status ≡ SINK_FAILED) × (stop ≡ Stopped SinkFault)))
     (λ last. Finishes g (λ r. r ≡ last) old new status)
 
--- the same by an end; nothing is written either where memory ran out
+-- as `EndsRun` of a C run
 abbrev pub EndsC : {K : Type 0} (g : Ghosts K) → (text : List ℕ) → CEnd → (old new : K) → (status : ℕ) → Type 0
 EndsC g text e old new status = MatchOption (end_reply text e)
     ((new ≡ old) × (((status ≡ SINK_FAILED) × (e ≡ ended.Ended (end.Stopped (Stopped SinkFault)))) ⊎ (status ≡ NO_MEMORY)))
