@@ -76,9 +76,8 @@ use vlt_view_verdict::{a_view_has_one_verdict, a_view_has_some_verdict, accepted
 /// - `failed`: 3 is for a sink that failed.
 /// - `memory`: after 4 nothing was written, or a part of a reply to the store's files that isn't that one wasn't read.
 pub fn vaultc<S: Store, K: Sink>(alloc: Global, words: &[String], store: &mut S, out: &mut K) -> u8
-    ensures every_store { Finishes K.Sink
-        (MayReply S.Store store.old store.new (command_of (map string_bytes words.now)))
-        out.old out.new result }
+    ensures every_store { Finishes K.Sink (MayReply S.Store store.old store.new
+        (command_of (map string_bytes words.now))) out.old out.new result }
     ensures told { (files : Files) → S.files store.old ≡ Some files → IsInside result →
         WroteReply K.Sink (IsReplyTo (map string_bytes words.now) files) out.old out.new result }
     ensures promised { (file : List ℕ) →
@@ -105,8 +104,7 @@ pub fn vaultc<S: Store, K: Sink>(alloc: Global, words: &[String], store: &mut S,
         (K.written out.old) (K.written out.new)) }
     ensures linked { (interface first second : List ℕ) →
         command_of (map string_bytes words.now) ≡ Some (commands.link interface first second) →
-        result ≡ DONE →
-        AllRead S.Store store.old store.new (commands.link interface first second)
+        result ≡ DONE → AllRead S.Store store.old store.new (commands.link interface first second)
         (λ contents. IsLinked (S.files store.old) (commands.link interface first second) contents
         (K.written out.old) (K.written out.new)) }
     ensures accepts { (files : Files) (file bytes : List ℕ) (p : Program) →
@@ -134,8 +132,7 @@ pub fn vaultc<S: Store, K: Sink>(alloc: Global, words: &[String], store: &mut S,
     ensures failed { result ≡ SINK_FAILED → Rose (K.faults out.old) (K.faults out.new) }
     ensures memory { (files : Files) → S.files store.old ≡ Some files →
         result ≡ NO_MEMORY → Grew (K.written out.old) (K.written out.new) [] ⊎
-        WrotePart K.Sink (Inside (IsReplyTo (map string_bytes words.now) files))
-        out.old out.new }
+        WrotePart K.Sink (Inside (IsReplyTo (map string_bytes words.now) files)) out.old out.new }
 {
     programs_are_fit();
     accepted_programs_go_right();
