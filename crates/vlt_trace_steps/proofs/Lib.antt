@@ -1,0 +1,10 @@
+pub mod Building
+pub mod Cells
+pub mod Doing
+pub mod Dropping
+pub mod Filling
+pub mod Leading
+pub mod Loops
+pub mod Making
+pub mod Packing
+pub mod Taking

@@ -1,0 +1,3 @@
+pub mod Hands
+pub mod Does
+pub mod Cases
