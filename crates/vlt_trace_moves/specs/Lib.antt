@@ -1,0 +1,3 @@
+pub mod Arms
+pub mod Clauses
+pub mod Conf

@@ -1,0 +1,241 @@
+//! One move of a run under way.
+
+ghost use Rattle.std.specs.Prelude.{◌≡◌, ◌+◌, map};
+ghost use Rattle.std.specs.Option.{option_map};
+ghost use Rattle.vlt_core.specs.Core.{call as call_form};
+ghost use Rattle.vlt_core.specs.View.{form_of, stmts_of, operand_of, keys_of};
+ghost use Rattle.vlt_trace_meaning.specs.Machine.{enter_body, list_moves, task_moves};
+ghost use Rattle.vlt_trace_worlds.specs.View.{value_view, frame_view, world_view};
+ghost use Rattle.vlt_trace_worlds.specs.Running.{program_in, func_in};
+ghost use Rattle.vlt_trace_moves.specs.Conf.{task_view, tasks_in, step_in, setup_at, acting, Moves, MovesOut};
+
+use crate::arms::{focus_on, switch_on};
+use crate::blocks::{choose, close, enter_block, turn, turn_on};
+use crate::calls::{callee, deliver, enter_frame, hand_over, name_kept, pass_objects};
+use crate::returns::give_back;
+use crate::tasks::{At, Caller, Conf, Focus, Left, Outside, Setup, Task, put_task};
+use vlt_base::{FnId, Items, KeyId, VarId};
+use vlt_core::{Form, Operand, Stmt};
+use vlt_trace_steps::{do_simple, end_focus, operands};
+use vlt_trace_worlds::{Halt, Reason, Running, Stop, Value};
+
+/// A function is entered. One that is at its end until it begins a statement.
+fn enter_body<'a>(
+    s: &Setup,
+    callee: Running<'a>,
+    target: Option<VarId>,
+    keys: &'a [KeyId],
+    args: Items<Value>,
+    c: &mut Conf<'a>,
+) -> Result<(), Halt>
+    requires { c.old.at ≡ At.Goes }
+    ensures moves { callee.program.now ≡ c.old.running.program.now → Moves (enter_body
+        (setup_at s.now c.old) (func_in c.old.running) c.old.place (option_map (λ v. v.0) target)
+        (keys_of keys.now) (func_in callee) (map value_view args) (tasks_in c.old)
+        (frame_view c.old.frame) (world_view c.old.world)) result c.new }
+    ensures program { callee.program.now ≡ c.old.running.program.now →
+        program_in c.new.running ≡ program_in c.old.running }
+{
+    if c.frame.depth >= s.depth {
+        return Err(Halt::Ends(Stop::DepthEnd));
+    }
+    let depth = c.frame.depth + 1;
+    let entries = callee.func.clause.as_slice();
+    pass_objects(&callee, keys, &c.frame, &c.world.objects, entries)?;
+    let frame = enter_frame(s.alloc, &callee, keys, depth, args, &c.frame)?;
+    hand_over(&callee, keys, &c.frame, depth, entries, &mut c.world);
+    let waiting = Caller {
+        func: c.running.func,
+        origin: c.running.origin,
+        place: c.place,
+        frame: std::mem::replace(&mut c.frame, frame),
+        target,
+        keys,
+    };
+    put_task(&mut c.tasks, Task::Back(waiting))?;
+    put_task(&mut c.tasks, Task::List(callee.func.body.as_slice()))?;
+    c.place = callee.func.end;
+    c.running = callee;
+    Ok(())
+}
+
+/// `target = f(..);`
+fn call<'a>(
+    s: &Setup,
+    f: FnId,
+    target: Option<VarId>,
+    keys: &'a [KeyId],
+    args: &[Operand],
+    c: &mut Conf<'a>,
+) -> Result<Option<Outside<'a>>, Halt>
+    requires { c.old.at ≡ At.Goes }
+    ensures moves { MovesOut s.now (acting s.now c.old (call_form f.0
+        (option_map (λ v. v.0) target) (keys_of keys.now) (map operand_of args.now))) result c.new }
+    ensures program { program_in c.new.running ≡ program_in c.old.running }
+{
+    let program = c.running.program;
+    let Some(func) = program.fns.get(f.0 as usize) else {
+        return Err(Halt::Ends(Stop::Fault(Reason::Missing, None)));
+    };
+    if args.len() != func.params as usize {
+        return Err(Halt::Ends(Stop::Fault(Reason::Missing, None)));
+    }
+    let args = operands(s.alloc, &c.running, args, &mut c.frame, &mut c.world)?;
+    c.world.spend()?;
+    let callee = callee(program, func, keys, &c.frame, &c.world.objects);
+    if func.external {
+        return Ok(Some(Outside {
+            callee,
+            target,
+            keys,
+            args,
+        }));
+    }
+    enter_body(s, callee, target, keys, args, c)?;
+    Ok(None)
+}
+
+/// `return ..;`
+fn return_from<'a>(s: &Setup, value: Option<&Operand>, c: &mut Conf<'a>) -> Result<(), Halt>
+    requires { c.old.at ≡ At.Goes }
+    ensures moves { Moves (acting s.now c.old (return_form
+        (option_map operand_of (option_copied value.entry)))) result c.new }
+    ensures program { program_in c.new.running ≡ program_in c.old.running }
+{
+    let left = give_back(s.alloc, &c.running, value, &mut c.frame, &mut c.world)?;
+    c.at = At::Leaves(left);
+    Ok(())
+}
+
+/// The statement at the place.
+fn act<'a>(s: &Setup, form: &'a Form, c: &mut Conf<'a>) -> Result<Option<Outside<'a>>, Halt>
+    requires { c.old.at ≡ At.Goes }
+    ensures moves { MovesOut s.now (acting s.now c.old (form_of form.now)) result c.new }
+    ensures program { program_in c.new.running ≡ program_in c.old.running }
+{
+    match form {
+        Form::Call {
+            f,
+            target,
+            keys,
+            args,
+        } => {
+            return call(s, *f, *target, keys.as_slice(), args.as_slice(), c);
+        }
+        Form::If {
+            cond,
+            then_block,
+            else_block,
+        } => choose(s, cond, then_block, else_block, c)?,
+        Form::While { cond, body } => turn_on(s, cond, body, c)?,
+        Form::Switch { v, arms, .. } => switch_on(s, *v, arms.as_slice(), c)?,
+        Form::Focus { y, z, body } => focus_on(s, *y, *z, body, c)?,
+        Form::Scope { body } => enter_block(body, c)?,
+        Form::Return { value } => return_from(s, value.as_ref(), c)?,
+        Form::Jump { continues } => c.at = At::Jumps {
+            continues: *continues,
+        },
+        _ => do_simple(
+            s.alloc,
+            s.heap,
+            &c.running,
+            form,
+            &mut c.frame,
+            &mut c.world,
+        )?,
+    }
+    Ok(None)
+}
+
+/// The next statement of a list, if the last step goes on.
+fn list<'a>(s: &Setup, stmts: &'a [Stmt], c: &mut Conf<'a>) -> Result<Option<Outside<'a>>, Halt>
+    ensures moves { MovesOut s.now (list_moves (setup_at s.now c.old) (func_in c.old.running)
+        c.old.place (stmts_of stmts.now) (tasks_in c.old) (step_in c.old)) result c.new }
+    ensures program { program_in c.new.running ≡ program_in c.old.running }
+{
+    match c.at {
+        At::Goes => {}
+        At::Jumps { .. } => return Ok(None),
+        At::Leaves(_) => return Ok(None),
+    }
+    let Some((first, rest)) = stmts.split_first() else {
+        return Ok(None);
+    };
+    put_task(&mut c.tasks, Task::List(rest))?;
+    c.place = first.at;
+    act(s, &first.form, c)
+}
+
+/// The end of a focus. A step that goes on comes to its brace.
+fn unfocus<'a>(s: &Setup, f: Focus, end: u32, c: &mut Conf<'a>) -> Result<(), Halt> {
+    match c.at {
+        At::Goes => {
+            c.place = end;
+            end_focus(
+                c.running.program,
+                f.guard,
+                f.key,
+                f.adopter,
+                f.number,
+                &c.frame,
+                &mut c.world,
+            )
+        }
+        At::Jumps { .. } => Ok(()),
+        At::Leaves(_) => Ok(()),
+    }
+}
+
+/// Back to the caller of a function that was left.
+fn back<'a>(k: Caller<'a>, c: &mut Conf<'a>) -> Result<(), Halt> {
+    let callee = c.running;
+    let Caller {
+        func,
+        origin,
+        place,
+        frame,
+        target,
+        keys,
+    } = k;
+    c.running = Running {
+        program: callee.program,
+        func,
+        origin,
+    };
+    c.place = place;
+    c.frame = frame;
+    match std::mem::replace(&mut c.at, At::Goes) {
+        At::Goes => Err(Halt::Ends(Stop::Fault(Reason::NoReturn, None))),
+        At::Jumps { .. } => Err(Halt::Ends(Stop::Fault(Reason::NoReturn, None))),
+        At::Leaves(left) => {
+            let Left { value, kept } = left;
+            let entries = callee.func.clause.as_slice();
+            name_kept(
+                &callee,
+                keys,
+                entries,
+                kept.as_slice(),
+                &mut c.frame,
+                &mut c.world,
+            )?;
+            deliver(&c.running, target, value, &mut c.frame)
+        }
+    }
+}
+
+/// One move.
+pub fn step<'a>(s: &Setup, t: Task<'a>, c: &mut Conf<'a>) -> Result<Option<Outside<'a>>, Halt>
+    ensures moves { MovesOut s.now (task_moves (setup_at s.now c.old) (func_in c.old.running)
+        c.old.place (task_view (program_in c.old.running) t.entry) (tasks_in c.old)
+        (step_in c.old)) result c.new }
+    ensures program { program_in c.new.running ≡ program_in c.old.running }
+{
+    match t {
+        Task::List(stmts) => return list(s, stmts, c),
+        Task::Closing(bound, end) => close(s, bound, end, c)?,
+        Task::Turn(place, e, b) => turn(s, place, e, b, c)?,
+        Task::Unfocus(focus, end) => unfocus(s, focus, end, c)?,
+        Task::Back(k) => back(k, c)?,
+    }
+    Ok(None)
+}
