@@ -1,3 +1,5 @@
-pub mod Instances
+pub mod Coming
+pub mod Entering
 pub mod Moving
 pub mod Putting
+pub mod Stepping

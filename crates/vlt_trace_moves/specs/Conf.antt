@@ -21,7 +21,6 @@ use Rattle.vlt_trace_worlds.specs.declared.worlds.World.{World}
 use Rattle.vlt_trace_moves.specs.declared.tasks.Caller.{Caller}
 use Rattle.vlt_trace_moves.specs.declared.tasks.Task.{Task}
 use Rattle.vlt_trace_moves.specs.declared.tasks.Task.TheVariants as task
-use Rattle.vlt_trace_moves.specs.declared.tasks.Left.{Left}
 use Rattle.vlt_trace_moves.specs.declared.tasks.At.{At}
 use Rattle.vlt_trace_moves.specs.declared.tasks.At.TheVariants as place
 use Rattle.vlt_trace_moves.specs.declared.tasks.Conf.{Conf}
@@ -84,13 +83,18 @@ Moves x (Ok u) c = x ≡ conf_view c
 Moves x (Err (Ends s)) c = told_conf x ≡ ending (outcome_of s) c
 Moves x (Err Memory) c = Unit {0}
 
--- the same, or an external is called there
+-- an external is called there
+pub record CallsOut (s : Setup) (x : m.Conf) (e : Outside) (c : Conf) : Type 0 where
+  pub goes : c.at ≡ place.Goes
+  pub program : program_in e.callee ≡ program_in c.running
+  pub is : x ≡ m.at (func_in c.running) c.place (tasks_in c)
+      (call_external s.heap (program_in c.running) (func_in c.running) (option_map (λ v. v.0) e.target) (keys_of e.keys.now)
+      (func_in e.callee) (map value_view e.args) (frame_view c.frame) (world_view c.world))
+
+-- a move leads to where the run goes on or an external is called, or ends so; or there is no memory
 abbrev pub MovesOut : Setup → m.Conf → Result (Option Outside) Halt → Conf → Type 0
 MovesOut s x (Ok None) c = x ≡ conf_view c
-MovesOut s x (Ok (Some e)) c =
-    x ≡ m.at (func_in c.running) c.place (tasks_in c)
-    (call_external s.heap (program_in c.running) (func_in c.running) (option_map (λ v. v.0) e.target) (keys_of e.keys.now)
-    (func_in e.callee) (map value_view e.args) (frame_view c.frame) (world_view c.world))
+MovesOut s x (Ok (Some e)) c = CallsOut s x e c
 MovesOut s x (Err (Ends r)) c = told_conf x ≡ ending (outcome_of r) c
 MovesOut s x (Err Memory) c = Unit {0}
 

@@ -1,15 +1,19 @@
 //! Statements that open what a variable has: a switch's arms, and a focus.
 
-ghost use Rattle.std.specs.Prelude.{◌≡◌, ℕ, IfOk, map};
+ghost use Rattle.std.specs.Prelude.{◌≡◌, ℕ, IfOk, OnOk, Some, map};
 ghost use Rattle.std.specs.Option.{option_map, option_copied};
 ghost use Rattle.vlt_core.specs.Core.{switch as switch_form, focus as focus_form};
-ghost use Rattle.vlt_core.specs.View.{block_of, arms_of};
-ghost use Rattle.vlt_meaning.specs.World.{one};
-ghost use Rattle.vlt_meaning.specs.Operands.{case_in};
-ghost use Rattle.vlt_trace_meaning.specs.Machine.{enter_arm};
+ghost use Rattle.vlt_core.specs.View.{block_of, arms_of, vars_of};
+ghost use Rattle.vlt_meaning.specs.World.{one, reference, held, lent};
+ghost use Rattle.vlt_meaning.specs.Objects.{with_owner};
+ghost use Rattle.vlt_meaning.specs.Step.{with_changed, with_key, with_var};
+ghost use Rattle.vlt_meaning.specs.Operands.{case_in, with_empty_variable};
+ghost use Rattle.vlt_meaning_laws.specs.Machine.Got.{filled_got};
+ghost use Rattle.vlt_trace_meaning.specs.Machine.{enter_arm, enter_block, when_got};
 ghost use Rattle.vlt_trace_worlds.specs.View.{value_view, part_view, frame_view, world_view};
 ghost use Rattle.vlt_trace_worlds.specs.Running.{program_in, func_in};
 ghost use Rattle.vlt_trace_worlds.specs.Steps.{Finds};
+ghost use Rattle.vlt_trace_moves.specs.declared.tasks.At.TheVariants.{Goes};
 ghost use Rattle.vlt_trace_moves.specs.Arms.{case_view};
 ghost use Rattle.vlt_trace_moves.specs.Conf.{tasks_in, acting, Moves};
 
@@ -19,7 +23,9 @@ use std::alloc::{AllocError, Global};
 use vlt_base::{Items, VarId};
 use vlt_core::{Arm, Block};
 use vlt_trace_steps::{case_keys, fill_all, open_case};
-use vlt_trace_worlds::{Halt, Owner, Part, Reason, Stop, Value, guarded_object, held_object};
+use vlt_trace_worlds::{
+    Frame, Halt, Owner, Part, Reason, Running, Stop, Value, World, guarded_object, held_object,
+};
 
 /// A value of a variant that a variable has: its case, its payload, and the objects of its case's keys.
 #[derive(Drop)]
@@ -59,6 +65,26 @@ fn values_of(alloc: Global, parts: &[Part]) -> Result<Items<Value>, AllocError>
     Ok(values)
 }
 
+/// An arm begins, with its variables filled.
+fn enter_body<'a>(
+    s: &Setup,
+    value: &CaseValue,
+    arm: &'a Arm,
+    c: &mut Conf<'a>,
+) -> Result<(), Halt>
+    requires { c.old.at ≡ Goes }
+    ensures moves { Moves (when_got (filled_got (func_in c.old.running) (vars_of arm.now.vars)
+        (map one (map part_view value.now.parts)) (frame_view c.old.frame)
+        (world_view c.old.world)) (func_in c.old.running) c.old.place (tasks_in c.old)
+        (λ u frame w. enter_block (func_in c.old.running) c.old.place (block_of arm.now.body)
+        (tasks_in c.old) frame (world_view c.old.world))) result c.new }
+    ensures program { program_in c.new.running ≡ program_in c.old.running }
+{
+    let values = values_of(s.alloc, value.parts.as_slice())?;
+    fill_all(&c.running, arm.vars.as_slice(), values, &mut c.frame)?;
+    enter_block(&arm.body, c)
+}
+
 /// The arm of a case begins, with its variables filled.
 fn enter_arm<'a>(
     s: &Setup,
@@ -66,7 +92,7 @@ fn enter_arm<'a>(
     arms: &'a [Arm],
     c: &mut Conf<'a>,
 ) -> Result<(), Halt>
-    requires { c.old.at ≡ At.Goes }
+    requires { c.old.at ≡ Goes }
     ensures moves { Moves (enter_arm (func_in c.old.running) c.old.place (case_view value.now)
         (arms_of arms.now) (tasks_in c.old) (frame_view c.old.frame) (world_view c.old.world))
         result c.new }
@@ -74,9 +100,7 @@ fn enter_arm<'a>(
 {
     for arm in arms {
         if arm.case == value.case {
-            let values = values_of(s.alloc, value.parts.as_slice())?;
-            fill_all(&c.running, arm.vars.as_slice(), values, &mut c.frame)?;
-            return enter_block(&arm.body, c);
+            return enter_body(s, value, arm, c);
         }
     }
     Err(Halt::Ends(Stop::Fault(Reason::Missing, None)))
@@ -84,7 +108,7 @@ fn enter_arm<'a>(
 
 /// `switch (v) { .. }`
 pub fn switch_on<'a>(s: &Setup, v: VarId, arms: &'a [Arm], c: &mut Conf<'a>) -> Result<(), Halt>
-    requires { c.old.at ≡ At.Goes }
+    requires { c.old.at ≡ Goes }
     ensures moves { (end : ℕ) → Moves (acting s.now c.old (switch_form v.0 (arms_of arms.now) end))
         result c.new }
     ensures program { program_in c.new.running ≡ program_in c.old.running }
@@ -100,10 +124,20 @@ pub fn switch_on<'a>(s: &Setup, v: VarId, arms: &'a [Arm], c: &mut Conf<'a>) -> 
         &c.frame,
         &mut c.world,
     )?;
-    if c.running.func.is_owning_var(v) {
-        c.frame.set_var(v, None)?;
-    }
+    empty_owning(&c.running, v, &mut c.frame)?;
     enter_arm(s, &value, arms, c)
+}
+
+/// An owning variable is emptied where it is switched on.
+fn empty_owning(at: &Running<'_>, v: VarId, frame: &mut Frame) -> Result<(), AllocError>
+    ensures { OnOk result (frame_view frame.new
+        ≡ with_empty_variable (func_in at.now) v.0 (frame_view frame.old)) }
+{
+    if at.func.is_owning_var(v) {
+        frame.set_var(v, None)
+    } else {
+        Ok(())
+    }
 }
 
 /// `focus y as tracked(K) z ..`
@@ -114,7 +148,7 @@ pub fn focus_on<'a>(
     body: &'a Block,
     c: &mut Conf<'a>,
 ) -> Result<(), Halt>
-    requires { c.old.at ≡ At.Goes }
+    requires { c.old.at ≡ Goes }
     ensures moves { Moves (acting s.now c.old (focus_form y.0 z.0 (block_of body.now)))
         result c.new }
     ensures program { program_in c.new.running ≡ program_in c.old.running }
@@ -127,30 +161,30 @@ pub fn focus_on<'a>(
     };
     let adopter = held_object(guard.key, &c.frame, &c.world.objects)?.number;
     let number = guarded_object(guard, y, &c.frame, &c.world.objects)?.number;
-    let depth = c.frame.depth;
-    c.world.set_owner(
-        adopter,
-        Owner::Lent {
-            depth,
-            key: guard.key.0,
-        },
-    );
-    c.world.set_owner(
-        number,
-        Owner::Held {
-            depth,
-            key: key.key.0,
-        },
-    );
-    c.frame.set_key(key.key, number)?;
-    c.frame
-        .set_var(z, Some(Value::One(Part::Reference(number))))?;
     let focus = Focus {
         guard,
         key,
         adopter,
         number,
     };
+    lend(&focus, z, &mut c.frame, &mut c.world)?;
     put_task(&mut c.tasks, Task::Unfocus(focus, body.end))?;
     enter_block(body, c)
+}
+
+/// The focus has its object under its key, and its variable refers to it; the adopter is lent.
+fn lend(f: &Focus, z: VarId, frame: &mut Frame, world: &mut World) -> Result<(), AllocError>
+    ensures frame { OnOk result (frame_view frame.new
+        ≡ with_var z.0 (Some (one (reference f.now.number)))
+        (with_key f.now.key.key.0 f.now.number (frame_view frame.old))) }
+    ensures world { world_view world.new ≡ with_changed (with_changed (world_view world.old)
+        f.now.adopter (with_owner (lent frame.old.depth f.now.guard.key.0)))
+        f.now.number (with_owner (held frame.old.depth f.now.key.key.0)) }
+{
+    let depth = frame.depth;
+    let (guard, key) = (f.guard.key.0, f.key.key.0);
+    world.set_owner(f.adopter, Owner::Lent { depth, key: guard });
+    world.set_owner(f.number, Owner::Held { depth, key });
+    frame.set_key(f.key.key, f.number)?;
+    frame.set_var(z, Some(Value::One(Part::Reference(f.number))))
 }

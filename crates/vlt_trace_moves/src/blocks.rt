@@ -1,13 +1,17 @@
 //! Blocks that begin and end, choices and loops.
 
-ghost use Rattle.std.specs.Prelude.{◌≡◌, map};
+ghost use Rattle.std.specs.Prelude.{◌≡◌, map, Err, None};
 ghost use Rattle.std.specs.List.{list_all};
 ghost use Rattle.vlt_core.specs.Core.{choose as choose_form};
 ghost use Rattle.vlt_core.specs.View.{block_of, expr_of, tok_of};
 ghost use Rattle.vlt_meaning.specs.Step.{is_unused};
-ghost use Rattle.vlt_trace_meaning.specs.Machine.{enter_block, turn_on, turn_moves, task_moves};
+ghost use Rattle.vlt_trace_meaning.specs.Machine.{closing, enter_block, turn_on, turn_moves, task_moves};
 ghost use Rattle.vlt_trace_worlds.specs.View.{objects_view, frame_view, world_view};
 ghost use Rattle.vlt_trace_worlds.specs.Running.{program_in, func_in};
+ghost use Rattle.vlt_trace_worlds.specs.declared.stops.Halt.TheVariants.{Ends};
+ghost use Rattle.vlt_trace_worlds.specs.declared.stops.Stop.TheVariants.{Fault};
+ghost use Rattle.vlt_trace_worlds.specs.declared.stops.Reason.TheVariants.{LeftBehind};
+ghost use Rattle.vlt_trace_moves.specs.declared.tasks.At.TheVariants.{Goes};
 ghost use Rattle.vlt_trace_moves.specs.Conf.{task_view, tasks_in, step_in, setup_at, acting, Moves};
 
 use crate::tasks::{At, Conf, Setup, Task, put_task};
@@ -15,8 +19,8 @@ use vlt_core::{Block, Expr, Tok};
 use vlt_trace_worlds::{Frame, Halt, Object, Reason, Stop, number};
 
 /// A block begins.
-fn enter_block<'a>(b: &'a Block, c: &mut Conf<'a>) -> Result<(), Halt>
-    requires { c.old.at ≡ At.Goes }
+pub fn enter_block<'a>(b: &'a Block, c: &mut Conf<'a>) -> Result<(), Halt>
+    requires { c.old.at ≡ Goes }
     ensures moves { Moves (enter_block (func_in c.old.running) c.old.place (block_of b.now)
         (tasks_in c.old) (frame_view c.old.frame) (world_view c.old.world)) result c.new }
     ensures program { program_in c.new.running ≡ program_in c.old.running }
@@ -26,14 +30,14 @@ fn enter_block<'a>(b: &'a Block, c: &mut Conf<'a>) -> Result<(), Halt>
 }
 
 /// `if (..) .. else ..`
-fn choose<'a>(
+pub fn choose<'a>(
     s: &Setup,
     cond: &Expr,
     a: &'a Block,
     b: &'a Block,
     c: &mut Conf<'a>,
 ) -> Result<(), Halt>
-    requires { c.old.at ≡ At.Goes }
+    requires { c.old.at ≡ Goes }
     ensures moves { Moves (acting s.now c.old
         (choose_form (expr_of cond.now) (block_of a.now) (block_of b.now))) result c.new }
     ensures program { program_in c.new.running ≡ program_in c.old.running }
@@ -47,8 +51,8 @@ fn choose<'a>(
 }
 
 /// A loop's next turn, or its end.
-fn turn_on<'a>(s: &Setup, e: &'a Expr, b: &'a Block, c: &mut Conf<'a>) -> Result<(), Halt>
-    requires { c.old.at ≡ At.Goes }
+pub fn turn_on<'a>(s: &Setup, e: &'a Expr, b: &'a Block, c: &mut Conf<'a>) -> Result<(), Halt>
+    requires { c.old.at ≡ Goes }
     ensures moves { Moves (turn_on (setup_at s.now c.old) (func_in c.old.running) c.old.place
         (expr_of e.now) (block_of b.now) (tasks_in c.old) (frame_view c.old.frame)
         (world_view c.old.world)) result c.new }
@@ -99,16 +103,23 @@ pub fn close<'a>(s: &Setup, bound: &'a [Tok], end: u32, c: &mut Conf<'a>) -> Res
         (closing (map tok_of bound.now) end) (tasks_in c.old) (step_in c.old)) result c.new }
     ensures program { program_in c.new.running ≡ program_in c.old.running }
 {
+    let is_clean = are_unused(bound, &c.frame, &c.world.objects);
     match c.at {
-        At::Goes => c.place = end,
-        At::Jumps { .. } => {}
-        At::Leaves(_) => return Ok(()),
+        At::Goes => {
+            c.place = end;
+            if is_clean { Ok(()) } else { left_behind() }
+        }
+        At::Jumps { .. } => {
+            if is_clean { Ok(()) } else { left_behind() }
+        }
+        At::Leaves(_) => Ok(()),
     }
-    if are_unused(bound, &c.frame, &c.world.objects) {
-        Ok(())
-    } else {
-        Err(Halt::Ends(Stop::Fault(Reason::LeftBehind, None)))
-    }
+}
+
+fn left_behind() -> Result<(), Halt>
+    ensures { result ≡ Err (Ends (Fault LeftBehind None)) }
+{
+    Err(Halt::Ends(Stop::Fault(Reason::LeftBehind, None)))
 }
 
 /// After the body of a loop: its next turn, or its end.
@@ -128,14 +139,14 @@ pub fn turn<'a>(
             c.place = place;
             turn_on(s, e, b, c)
         }
-        At::Jumps { continues: true } => {
+        At::Jumps { continues } => {
             c.at = At::Goes;
-            c.place = place;
-            turn_on(s, e, b, c)
-        }
-        At::Jumps { continues: false } => {
-            c.at = At::Goes;
-            Ok(())
+            if continues {
+                c.place = place;
+                turn_on(s, e, b, c)
+            } else {
+                Ok(())
+            }
         }
         At::Leaves(_) => Ok(()),
     }

@@ -1,23 +1,42 @@
 //! One move of a run under way.
 
-ghost use Rattle.std.specs.Prelude.{◌≡◌, ◌+◌, map};
-ghost use Rattle.std.specs.Option.{option_map};
-ghost use Rattle.vlt_core.specs.Core.{call as call_form};
+ghost use Rattle.std.specs.Prelude.{◌≡◌, OnOk, map};
+ghost use Rattle.std.specs.Option.{option_map, option_copied};
+ghost use Rattle.vlt_core.specs.Core.{call as call_form, return as return_form};
 ghost use Rattle.vlt_core.specs.View.{form_of, stmts_of, operand_of, keys_of};
+ghost use Rattle.vlt_meaning.specs.Calls.{back_in};
+ghost use Rattle.vlt_meaning.specs.Step.{leaves};
+ghost use Rattle.vlt_trace_meaning.specs.Machine as m;
 ghost use Rattle.vlt_trace_meaning.specs.Machine.{enter_body, list_moves, task_moves};
 ghost use Rattle.vlt_trace_worlds.specs.View.{value_view, frame_view, world_view};
 ghost use Rattle.vlt_trace_worlds.specs.Running.{program_in, func_in};
+ghost use Rattle.vlt_trace_moves.specs.declared.tasks.At.TheVariants.{Goes};
+ghost use Rattle.vlt_trace_moves.specs.declared.tasks.Task.TheVariants.{Unfocus, Back};
+ghost use Rattle.vlt_trace_moves.specs.declared.tasks.Conf.{Conf as Configuration};
+ghost use Rattle.vlt_trace_moves.specs.declared.tasks.Setup.{Setup as Limits};
 ghost use Rattle.vlt_trace_moves.specs.Conf.{task_view, tasks_in, step_in, setup_at, acting, Moves, MovesOut};
 
 use crate::arms::{focus_on, switch_on};
 use crate::blocks::{choose, close, enter_block, turn, turn_on};
-use crate::calls::{callee, deliver, enter_frame, hand_over, name_kept, pass_objects};
-use crate::returns::give_back;
-use crate::tasks::{At, Caller, Conf, Focus, Left, Outside, Setup, Task, put_task};
+use crate::tasks::{At, Caller, Conf, Focus, Outside, Setup, Task, put_task};
 use vlt_base::{FnId, Items, KeyId, VarId};
 use vlt_core::{Form, Operand, Stmt};
+use vlt_trace_calls::{
+    Left, callee, deliver, enter_frame, give_back, hand_over, name_kept, pass_objects,
+};
 use vlt_trace_steps::{do_simple, end_focus, operands};
 use vlt_trace_worlds::{Halt, Reason, Running, Stop, Value};
+
+/// A move that calls no external.
+fn within<'a>(moved: Result<(), Halt>) -> Result<Option<Outside<'a>>, Halt>
+    ensures { (s : Limits) (x : m.Conf) (c : Configuration) → Moves x moved c →
+        MovesOut s x result c }
+{
+    match moved {
+        Ok(()) => Ok(None),
+        Err(halt) => Err(halt),
+    }
+}
 
 /// A function is entered. One that is at its end until it begins a statement.
 fn enter_body<'a>(
@@ -28,7 +47,7 @@ fn enter_body<'a>(
     args: Items<Value>,
     c: &mut Conf<'a>,
 ) -> Result<(), Halt>
-    requires { c.old.at ≡ At.Goes }
+    requires { c.old.at ≡ Goes }
     ensures moves { callee.program.now ≡ c.old.running.program.now → Moves (enter_body
         (setup_at s.now c.old) (func_in c.old.running) c.old.place (option_map (λ v. v.0) target)
         (keys_of keys.now) (func_in callee) (map value_view args) (tasks_in c.old)
@@ -68,7 +87,7 @@ fn call<'a>(
     args: &[Operand],
     c: &mut Conf<'a>,
 ) -> Result<Option<Outside<'a>>, Halt>
-    requires { c.old.at ≡ At.Goes }
+    requires { c.old.at ≡ Goes }
     ensures moves { MovesOut s.now (acting s.now c.old (call_form f.0
         (option_map (λ v. v.0) target) (keys_of keys.now) (map operand_of args.now))) result c.new }
     ensures program { program_in c.new.running ≡ program_in c.old.running }
@@ -91,13 +110,12 @@ fn call<'a>(
             args,
         }));
     }
-    enter_body(s, callee, target, keys, args, c)?;
-    Ok(None)
+    within(enter_body(s, callee, target, keys, args, c))
 }
 
 /// `return ..;`
 fn return_from<'a>(s: &Setup, value: Option<&Operand>, c: &mut Conf<'a>) -> Result<(), Halt>
-    requires { c.old.at ≡ At.Goes }
+    requires { c.old.at ≡ Goes }
     ensures moves { Moves (acting s.now c.old (return_form
         (option_map operand_of (option_copied value.entry)))) result c.new }
     ensures program { program_in c.new.running ≡ program_in c.old.running }
@@ -109,7 +127,7 @@ fn return_from<'a>(s: &Setup, value: Option<&Operand>, c: &mut Conf<'a>) -> Resu
 
 /// The statement at the place.
 fn act<'a>(s: &Setup, form: &'a Form, c: &mut Conf<'a>) -> Result<Option<Outside<'a>>, Halt>
-    requires { c.old.at ≡ At.Goes }
+    requires { c.old.at ≡ Goes }
     ensures moves { MovesOut s.now (acting s.now c.old (form_of form.now)) result c.new }
     ensures program { program_in c.new.running ≡ program_in c.old.running }
 {
@@ -119,32 +137,32 @@ fn act<'a>(s: &Setup, form: &'a Form, c: &mut Conf<'a>) -> Result<Option<Outside
             target,
             keys,
             args,
-        } => {
-            return call(s, *f, *target, keys.as_slice(), args.as_slice(), c);
-        }
+        } => call(s, *f, *target, keys.as_slice(), args.as_slice(), c),
         Form::If {
             cond,
             then_block,
             else_block,
-        } => choose(s, cond, then_block, else_block, c)?,
-        Form::While { cond, body } => turn_on(s, cond, body, c)?,
-        Form::Switch { v, arms, .. } => switch_on(s, *v, arms.as_slice(), c)?,
-        Form::Focus { y, z, body } => focus_on(s, *y, *z, body, c)?,
-        Form::Scope { body } => enter_block(body, c)?,
-        Form::Return { value } => return_from(s, value.as_ref(), c)?,
-        Form::Jump { continues } => c.at = At::Jumps {
-            continues: *continues,
-        },
-        _ => do_simple(
+        } => within(choose(s, cond, then_block, else_block, c)),
+        Form::While { cond, body } => within(turn_on(s, cond, body, c)),
+        Form::Switch { v, arms, .. } => within(switch_on(s, *v, arms.as_slice(), c)),
+        Form::Focus { y, z, body } => within(focus_on(s, *y, *z, body, c)),
+        Form::Scope { body } => within(enter_block(body, c)),
+        Form::Return { value } => within(return_from(s, value.as_ref(), c)),
+        Form::Jump { continues } => {
+            c.at = At::Jumps {
+                continues: *continues,
+            };
+            Ok(None)
+        }
+        _ => within(do_simple(
             s.alloc,
             s.heap,
             &c.running,
             form,
             &mut c.frame,
             &mut c.world,
-        )?,
+        )),
     }
-    Ok(None)
 }
 
 /// The next statement of a list, if the last step goes on.
@@ -167,7 +185,12 @@ fn list<'a>(s: &Setup, stmts: &'a [Stmt], c: &mut Conf<'a>) -> Result<Option<Out
 }
 
 /// The end of a focus. A step that goes on comes to its brace.
-fn unfocus<'a>(s: &Setup, f: Focus, end: u32, c: &mut Conf<'a>) -> Result<(), Halt> {
+fn unfocus<'a>(s: &Setup, f: Focus, end: u32, c: &mut Conf<'a>) -> Result<(), Halt>
+    ensures moves { Moves (task_moves (setup_at s.now c.old) (func_in c.old.running) c.old.place
+        (task_view (program_in c.old.running) (Unfocus f end)) (tasks_in c.old) (step_in c.old))
+        result c.new }
+    ensures program { program_in c.new.running ≡ program_in c.old.running }
+{
     match c.at {
         At::Goes => {
             c.place = end;
@@ -187,7 +210,12 @@ fn unfocus<'a>(s: &Setup, f: Focus, end: u32, c: &mut Conf<'a>) -> Result<(), Ha
 }
 
 /// Back to the caller of a function that was left.
-fn back<'a>(k: Caller<'a>, c: &mut Conf<'a>) -> Result<(), Halt> {
+fn back<'a>(s: &Setup, k: Caller<'a>, c: &mut Conf<'a>) -> Result<(), Halt>
+    ensures moves { Moves (task_moves (setup_at s.now c.old) (func_in c.old.running) c.old.place
+        (task_view (program_in c.old.running) (Back k)) (tasks_in c.old) (step_in c.old))
+        result c.new }
+    ensures program { program_in c.new.running ≡ program_in c.old.running }
+{
     let callee = c.running;
     let Caller {
         func,
@@ -209,18 +237,30 @@ fn back<'a>(k: Caller<'a>, c: &mut Conf<'a>) -> Result<(), Halt> {
         At::Jumps { .. } => Err(Halt::Ends(Stop::Fault(Reason::NoReturn, None))),
         At::Leaves(left) => {
             let Left { value, kept } = left;
-            let entries = callee.func.clause.as_slice();
-            name_kept(
-                &callee,
-                keys,
-                entries,
-                kept.as_slice(),
-                &mut c.frame,
-                &mut c.world,
-            )?;
-            deliver(&c.running, target, value, &mut c.frame)
+            take_back(&callee, target, keys, value, kept.as_slice(), c)
         }
     }
+}
+
+/// What a callee left comes to its caller, which runs again.
+fn take_back<'a>(
+    callee: &Running<'a>,
+    target: Option<VarId>,
+    keys: &[KeyId],
+    value: Option<Value>,
+    kept: &[usize],
+    c: &mut Conf<'a>,
+) -> Result<(), Halt>
+    requires { c.old.at ≡ Goes }
+    ensures moves { Moves (m.at (func_in c.old.running) c.old.place (tasks_in c.old)
+        (back_in (func_in c.old.running) (option_map (λ v. v.0) target) (keys_of keys.now)
+        (func_in callee.now) (frame_view c.old.frame)
+        (leaves (option_map value_view value) kept.now (world_view c.old.world)))) result c.new }
+    ensures program { program_in c.new.running ≡ program_in c.old.running }
+{
+    let entries = callee.func.clause.as_slice();
+    name_kept(callee, keys, entries, kept, &mut c.frame, &mut c.world)?;
+    deliver(&c.running, target, value, &mut c.frame)
 }
 
 /// One move.
@@ -231,11 +271,10 @@ pub fn step<'a>(s: &Setup, t: Task<'a>, c: &mut Conf<'a>) -> Result<Option<Outsi
     ensures program { program_in c.new.running ≡ program_in c.old.running }
 {
     match t {
-        Task::List(stmts) => return list(s, stmts, c),
-        Task::Closing(bound, end) => close(s, bound, end, c)?,
-        Task::Turn(place, e, b) => turn(s, place, e, b, c)?,
-        Task::Unfocus(focus, end) => unfocus(s, focus, end, c)?,
-        Task::Back(k) => back(k, c)?,
+        Task::List(stmts) => list(s, stmts, c),
+        Task::Closing(bound, end) => within(close(s, bound, end, c)),
+        Task::Turn(place, e, b) => within(turn(s, place, e, b, c)),
+        Task::Unfocus(focus, end) => within(unfocus(s, focus, end, c)),
+        Task::Back(k) => within(back(s, k, c)),
     }
-    Ok(None)
 }

@@ -6,6 +6,7 @@ ghost use Rattle.vlt_trace_moves.specs.Conf.{PutsTask};
 use std::alloc::Global;
 use vlt_base::{Items, KeyId, VarId};
 use vlt_core::{Block, Expr, Func, Reference, Stmt, Tok};
+use vlt_trace_calls::Left;
 use vlt_trace_worlds::{Frame, Halt, Running, Value, World};
 
 /// What never changes in a run, beside its program.
@@ -46,13 +47,6 @@ pub enum Task<'a> {
     /// The end of a focus, at its brace.
     Unfocus(Focus, u32),
     Back(Caller<'a>),
-}
-
-/// What a function leaves: its value, and the objects of the clause's keys that are held after.
-#[derive(Drop)]
-pub struct Left {
-    pub value: Option<Value>,
-    pub kept: Items<usize>,
 }
 
 /// Where the last step came to.

@@ -1,0 +1,5 @@
+pub mod Handing
+pub mod Instances
+pub mod Leaving
+pub mod Passing
+pub mod Returning
