@@ -1,13 +1,16 @@
 -- Keys that come back to the caller, entry by entry.
-use Rattle.std.proofs.Common.{◌≡◌, ℕ, true, false, if◌then◌else◌, List, [], ◌∷◌, ◌++◌, filter, Option, Some, None, slice_get, refl, ap, sym, ◌∙◌}
+use Rattle.std.proofs.Common.{◌≡◌, ℕ, true, false, cond, List, [], ◌∷◌, ◌++◌, filter, Option, Some, None, slice_get, refl, ap, sym, ◌∙◌}
 use Rattle.std.specs.Option.{option_map, option_to_list}
 use Rattle.vlt_core.specs.Core.{Entry}
 use Rattle.vlt_core.specs.Lookups.{is_held_after}
-use Rattle.vlt_meaning.specs.Calls.{Binding, binding, bindings}
+use Rattle.vlt_meaning.specs.World.{held, Object, Frame}
+use Rattle.vlt_meaning.specs.Objects.{with_owner, with_changed_object}
+use Rattle.vlt_meaning.specs.Step.{with_key}
+use Rattle.vlt_meaning.specs.Calls.{Binding, binding, bindings, with_names, with_holders}
 
 -- an entry that isn't held after has no object
 pub skip_entry : (keys : List ℕ) (e : Entry) (es : List Entry) (ns : List ℕ) → is_held_after e ≡ false → bindings keys (filter is_held_after (e ∷ es)) ns ≡ bindings keys (filter is_held_after es) ns
-skip_entry keys e es ns h = ap (λ b. bindings keys (if b then e ∷ filter is_held_after es else filter is_held_after es) ns) h
+skip_entry keys e es ns h = ap (λ b. bindings keys (cond b (e ∷ filter is_held_after es) (filter is_held_after es)) ns) h
 
 pub no_entry : (keys : List ℕ) (ns : List ℕ) → bindings keys (filter is_held_after []) ns ≡ []
 no_entry keys ns = refl
@@ -21,13 +24,18 @@ none_kept keys es = no_binding keys (filter is_held_after es)
 
 pub name_one : (keys : List ℕ) (e : Entry) (es : List Entry) (n : ℕ) (ns : List ℕ) → is_held_after e ≡ true →
     bindings keys (filter is_held_after (e ∷ es)) (n ∷ ns) ≡ option_to_list (option_map (binding n) (slice_get keys e.key)) ++ bindings keys (filter is_held_after es) ns
-name_one keys e es n ns h = ap (λ b. bindings keys (if b then e ∷ filter is_held_after es else filter is_held_after es) (n ∷ ns)) h
+name_one keys e es n ns h = ap (λ b. bindings keys (cond b (e ∷ filter is_held_after es) (filter is_held_after es)) (n ∷ ns)) h
 
--- the caller has a key for it, or none
-pub name_here : (keys : List ℕ) (e : Entry) (es : List Entry) (n : ℕ) (ns : List ℕ) (k : ℕ) → is_held_after e ≡ true → slice_get keys e.key ≡ Some k →
-    bindings keys (filter is_held_after (e ∷ es)) (n ∷ ns) ≡ binding n k ∷ bindings keys (filter is_held_after es) ns
-name_here keys e es n ns k h at = name_one keys e es n ns h ∙ ap (λ o. option_to_list (option_map (binding n) o) ++ bindings keys (filter is_held_after es) ns) at
+-- ---- names and holders, one after another
 
-pub name_nowhere : (keys : List ℕ) (e : Entry) (es : List Entry) (n : ℕ) (ns : List ℕ) → is_held_after e ≡ true → slice_get keys e.key ≡ None →
-    bindings keys (filter is_held_after (e ∷ es)) (n ∷ ns) ≡ bindings keys (filter is_held_after es) ns
-name_nowhere keys e es n ns h at = name_one keys e es n ns h ∙ ap (λ o. option_to_list (option_map (binding n) o) ++ bindings keys (filter is_held_after es) ns) at
+pub names_after : (xs ys : List Binding) (frame : Frame) → with_names (xs ++ ys) frame ≡ with_names ys (with_names xs frame)
+names_after [] ys frame = refl
+names_after (x ∷ xs) ys frame = names_after xs ys (with_key x.key x.number frame)
+
+pub holders_after : (d : ℕ) (xs ys : List Binding) (objects : List Object) → with_holders d (xs ++ ys) objects ≡ with_holders d ys (with_holders d xs objects)
+holders_after d [] ys objects = refl
+holders_after d (x ∷ xs) ys objects = holders_after d xs ys (with_changed_object x.number (with_owner (held d x.key)) objects)
+
+pub names_keep_depth : (bs : List Binding) (frame : Frame) → (with_names bs frame).depth ≡ frame.depth
+names_keep_depth [] frame = refl
+names_keep_depth (b ∷ bs) frame = names_keep_depth bs (with_key b.key b.number frame)

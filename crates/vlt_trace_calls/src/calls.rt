@@ -1,19 +1,19 @@
 //! Calls: the keys of a clause, handed to the callee and back.
 
 ghost use Rattle.std.specs.Prelude.{◌≡◌, ℕ, suc, IfOk, OnOk, map, Some, filter};
-ghost use Rattle.std.specs.Option.{option_map};
+ghost use Rattle.std.specs.Option.{option_map, option_to_list};
 ghost use Rattle.vlt_core.specs.Instances.{bound_in};
 ghost use Rattle.vlt_core.specs.View.{program_of, func_of, keys_of};
 ghost use Rattle.vlt_core.specs.Lookups.{is_held_after};
 ghost use Rattle.vlt_meaning.specs.World as w;
 ghost use Rattle.vlt_meaning.specs.Step.{deliver, with_objects};
-ghost use Rattle.vlt_meaning.specs.Calls.{passed_object, passed_objects, state_under, called_instance, handed_over, is_new_key, callee_key, callee_frame, bindings, with_names, with_holders};
+ghost use Rattle.vlt_meaning.specs.Calls.{passed_object, passed_objects, state_under, called_instance, handed_over, is_new_key, callee_key, callee_frame, binding, bindings, with_names, with_holders};
 ghost use Rattle.vlt_trace_worlds.specs.View.{found_of, named_view, value_view, objects_view, frame_view, world_view, key_in, var_in};
 ghost use Rattle.vlt_trace_worlds.specs.Running.{program_in, func_in};
 ghost use Rattle.vlt_trace_worlds.specs.Steps.{Goes};
 ghost use Rattle.vlt_trace_calls.specs.Clauses.{entry_seen, entries_seen, tested};
 
-use crate::clauses::{allows_before, caller_object, is_after, is_before, is_new};
+use crate::clauses::{allows_before, caller_object, is_after, is_before, is_new, key_at};
 use std::alloc::{AllocError, Global};
 use vlt_base::{Items, KeyId, VarId};
 use vlt_core::{Entry, Func, Program};
@@ -34,9 +34,9 @@ fn passed_object<'a>(
         (func_in callee.now) (keys_of keys.now) (frame_view frame.now) (objects_view objects.now)
         (entry_seen callee.now e.now) }
 {
-    match keys.get(e.key.0 as usize) {
+    match key_at(keys, e.key.0 as usize) {
         None => Err(Stop::Fault(Reason::Missing, None)),
-        Some(k) => match held_object(*k, frame, objects) {
+        Some(k) => match held_object(k, frame, objects) {
             Err(stop) => Err(stop),
             Ok(m) => in_states(allows_before(callee, e, m.object.state), m),
         },
@@ -162,9 +162,9 @@ fn callee_key(callee: &Running<'_>, keys: &[KeyId], frame: &Frame, k: usize) -> 
     if is_new_key(callee, k) {
         None
     } else {
-        match keys.get(k) {
+        match key_at(keys, k) {
             None => None,
-            Some(j) => frame.key(*j),
+            Some(j) => frame.key(j),
         }
     }
 }
@@ -262,15 +262,29 @@ pub fn name_kept(
     let Some((n, later)) = kept.split_first() else {
         return Ok(());
     };
-    if let Some(k) = keys.get(e.key.0 as usize) {
-        frame.set_key(*k, *n)?;
-        world.set_owner(
-            *n,
-            Owner::Held {
-                depth: frame.depth,
-                key: k.0,
-            },
-        );
-    }
+    name_one(key_at(keys, e.key.0 as usize), *n, frame, world)?;
     name_kept(callee, keys, rest, later, frame, world)
+}
+
+/// The caller's key, if it has one, names the object, and holds it.
+fn name_one(
+    k: Option<KeyId>,
+    n: usize,
+    frame: &mut Frame,
+    world: &mut World,
+) -> Result<(), AllocError>
+    ensures frame { OnOk result (frame_view frame.new ≡ with_names
+        (option_to_list (option_map (binding n) (option_map (λ k. k.0) k))) (frame_view frame.old)) }
+    ensures world { OnOk result (world_view world.new ≡ with_objects (world_view world.old)
+        (with_holders frame.old.depth (option_to_list (option_map (binding n)
+        (option_map (λ k. k.0) k))) (objects_view world.old.objects.items))) }
+{
+    match k {
+        None => Ok(()),
+        Some(k) => {
+            let depth = frame.depth;
+            world.set_owner(n, Owner::Held { depth, key: k.0 });
+            frame.set_key(k, n)
+        }
+    }
 }

@@ -1,7 +1,7 @@
 //! The entries of clauses: where their keys are held, and in which states.
 
 ghost use Rattle.std.specs.Prelude.{◌≡◌, slice_get};
-ghost use Rattle.std.specs.Option.{option_and_then};
+ghost use Rattle.std.specs.Option.{option_map, option_and_then};
 ghost use Rattle.vlt_core.specs.Lookups.{is_held_before, is_held_after, is_new, before_set, after_set, states_of_key, states_or_all, key_states_up_to};
 ghost use Rattle.vlt_core.specs.View.{keys_of, states_of};
 ghost use Rattle.vlt_trace_worlds.specs.View.{frame_view};
@@ -111,13 +111,23 @@ pub fn allows_after(at: &Running<'_>, e: &Entry, state: u8) -> bool
     side_allows(at, e, e.after, state)
 }
 
+/// The caller's key that stands for a key of the callee's head.
+pub fn key_at(keys: &[KeyId], k: usize) -> Option<KeyId>
+    ensures { option_map (λ j. j.0) result ≡ slice_get (keys_of keys.now) k }
+{
+    match keys.get(k) {
+        None => None,
+        Some(j) => Some(*j),
+    }
+}
+
 /// The object of the caller's key that stands for a key of the head.
 pub fn caller_object(keys: &[KeyId], frame: &Frame, k: KeyId) -> Option<usize>
     ensures { result ≡ option_and_then (frame_view frame.now).keys
         (slice_get (keys_of keys.now) k.0) }
 {
-    match keys.get(k.0 as usize) {
+    match key_at(keys, k.0 as usize) {
         None => None,
-        Some(j) => frame.key(*j),
+        Some(j) => frame.key(j),
     }
 }

@@ -1,16 +1,21 @@
 -- Calls: a function is entered, or the run ends there.
-use Rattle.std.proofs.Common.{◌≡◌, ◌==◌, ◌-◌, ℕ, nat_lt, Bool, true, false, if◌then◌else◌, List, [], ◌∷◌, map, length, Option, Some, None, slice_get, Result, Ok, Err, refl, sym, ap, subst, ◌∙◌}
+use Rattle.std.proofs.Common.{◌≡◌, ◌==◌, ◌-◌, ℕ, nat_lt, Bool, true, false, if◌then◌else◌, List, [], ◌∷◌, map, length, Option, Some, None, slice_get, Result, Ok, Err, refl, sym, ap, subst, ◌∙◌, arith}
+use Rattle.std.proofs.lemmas.Bool.Decides.{nat_tests}
+use Rattle.std.proofs.lemmas.List.{length-map}
 use Rattle.vlt_core.specs.Core as core
 use Rattle.vlt_core.specs.Core.{Operand, Func, Program, call}
 use Rattle.vlt_meaning.specs.World as w
 use Rattle.vlt_meaning.specs.Found.{Found, or_fault}
 use Rattle.vlt_meaning.specs.Step.{Step, goes, ends, with_objects}
 use Rattle.vlt_meaning.specs.Calls.{called_instance, passed_objects, handed_over, callee_frame}
+use Rattle.vlt_meaning.specs.Externals.{call_external}
 use Rattle.vlt_meaning.specs.Run as run
 use Rattle.vlt_meaning_laws.specs.Machine.Got.{Got, got, stopped, operands_got}
 use Rattle.vlt_trace_meaning.specs.Machine as m
 use Rattle.vlt_trace_meaning.specs.Machine.{when_found, when_got, when_so, spending, enter, enter_by, enter_body}
 use Rattle.vlt_trace_worlds.specs.Steps.{told, told_got}
+use Rattle.vlt_trace_worlds.specs.View.{outcome_of}
+use Rattle.vlt_trace_worlds.specs.declared.stops.Stop.{Stop}
 use Rattle.vlt_trace_worlds.specs.declared.stops.Halt.{Halt}
 use Rattle.vlt_trace_worlds.specs.declared.stops.Halt.TheVariants.{Ends, Memory}
 use Rattle.vlt_trace_calls.specs.Clauses.{tested}
@@ -19,12 +24,19 @@ use Rattle.vlt_trace_moves.specs.declared.tasks.At.TheVariants as place
 use Rattle.vlt_trace_moves.specs.declared.tasks.Conf.{Conf}
 use Rattle.vlt_trace_moves.specs.declared.tasks.Setup.{Setup}
 use Rattle.vlt_trace_moves.specs.declared.tasks.Outside.{Outside}
-use Rattle.vlt_trace_moves.specs.Conf.{step_view, told_conf, Moves, MovesOut}
+use Rattle.vlt_trace_moves.specs.declared.tasks.Task.{Task}
+use Rattle.vlt_trace_moves.specs.Conf.{task_view, tasks_view, step_view, told_conf, ending, Moves, MovesOut}
 
 -- an end without a call of an external
 pub halts_out : (s : Setup) (x : m.Conf) (h : Halt) (c : Conf) → Moves x (Err h) c → MovesOut s x (Err h) c
 halts_out s x (Ends o) c h = h
 halts_out s x Memory c h = tt
+
+pub out_halts : (s : Setup) (x : m.Conf) (r : Result (Option Outside) Halt) (h : Halt) (c : Conf) → r ≡ Err h → Moves x (Err h) c → MovesOut s x r c
+out_halts s x r h c e g = subst (λ z. MovesOut s x z c) (sym e) (halts_out s x h c g)
+
+pub out_ends : (s : Setup) (x : m.Conf) (r : Result (Option Outside) Halt) (o : Stop) (c : Conf) → r ≡ Err (Ends o) → told_conf x ≡ ending (outcome_of o) c → MovesOut s x r c
+out_ends s x r o c e h = subst (λ z. MovesOut s x z c) (sym e) h
 
 -- ---- the body
 
@@ -84,7 +96,26 @@ same_going g l ts us a fr gr u v here t e f =
     ∙ (ap (λ x. m.at g l us (goes x u)) e
     ∙ (ap (λ x. m.at g l us (goes gr x)) f ∙ ap (λ p. m.at g l us (step_view p gr v)) (sym here)))
 
+pub tasks_entered : (p q : Program) (back stmts : Task) (ts mid us : List Task) (a b : m.Task) → q ≡ p → tasks_view p mid ≡ task_view p back ∷ tasks_view p ts → tasks_view p us ≡ task_view p stmts ∷ tasks_view p mid →
+    a ≡ task_view p stmts → b ≡ task_view p back → a ∷ b ∷ tasks_view p ts ≡ tasks_view q us
+tasks_entered p q back stmts ts mid us a b same one two e1 e2 =
+    ap (λ x. x ∷ b ∷ tasks_view p ts) e1
+    ∙ (ap (λ x. task_view p stmts ∷ x ∷ tasks_view p ts) e2
+    ∙ (ap (λ l. task_view p stmts ∷ l) (sym one) ∙ (sym two ∙ ap (λ r. tasks_view r us) (sym same))))
+
 -- ---- the call
+
+same : (n k : ℕ) → n ≡ k → (n == k) ≡ true
+same n k e = grind (arith, nat_tests)
+
+differ : (n k : ℕ) → (n ≡ k → ⊥) → (n == k) ≡ false
+differ n k e = grind (arith, nat_tests)
+
+pub counted : {A B : Type 0} (f : A → B) (xs : List A) (n : ℕ) → length xs ≡ n → (length (map f xs) == n) ≡ true
+counted f xs n e = same (length (map f xs)) n (length-map xs f ∙ e)
+
+pub miscounted : {A B : Type 0} (f : A → B) (xs : List A) (n : ℕ) → (length xs ≡ n → ⊥) → (length (map f xs) == n) ≡ false
+miscounted f xs n e = differ (length (map f xs)) n (λ q. e (sym (length-map xs f) ∙ q))
 
 pub no_function : (r : run.Setup) (f : Func) (l : ℕ) (n : ℕ) (target : Option ℕ) (keys : List ℕ) (args : List Operand) (ts : List m.Task) (frame : w.Frame) (v : w.World) → slice_get r.program.fns n ≡ None →
     told_conf (m.act r f l (call n target keys args) ts frame v) ≡ m.at f l ts (ends (w.fault w.missing None) (told v))
@@ -117,15 +148,27 @@ call_begins r f l n target keys args ts frame v g e count =
     ∙ ap (λ b. when_so b w.missing f l ts v (when_got (operands_got r.program f args frame v) f l ts (after_args r f l target keys g ts))) count
 
 -- the operands are taken, and the fuel is spent
-pub call_spent : (r : run.Setup) (f : Func) (l : ℕ) (n : ℕ) (target : Option ℕ) (keys : List ℕ) (args : List Operand) (ts : List m.Task) (frame next : w.Frame) (v u : w.World) (g : Func) (values : List w.Value) (external : Bool) →
-    slice_get r.program.fns n ≡ Some g → (length args == g.params) ≡ true → operands_got r.program f args frame v ≡ got values next u → (u.fuel == 0) ≡ false → g.external ≡ external →
-    m.act r f l (call n target keys args) ts frame v ≡ enter_by external r f l target keys (called_instance r.program g keys next u.objects) values ts next (record u { fuel = u.fuel - 1 })
+pub call_spent : (external : Bool) (r : run.Setup) (f : Func) (l : ℕ) (n : ℕ) (target : Option ℕ) (keys : List ℕ) (args : List Operand) (ts : List m.Task) (frame next : w.Frame) (v u t : w.World) (g h : Func) (values : List w.Value) →
+    slice_get r.program.fns n ≡ Some g → (length args == g.params) ≡ true → operands_got r.program f args frame v ≡ got values next u → (u.fuel == 0) ≡ false → t ≡ record u { fuel = u.fuel - 1 } → g.external ≡ external → h ≡ called_instance r.program g keys next t.objects →
+    m.act r f l (call n target keys args) ts frame v ≡ enter_by external r f l target keys h values ts next t
 unfolding when_got spending
-call_spent r f l n target keys args ts frame next v u g values external e count taken fuel is =
+call_spent external r f l n target keys args ts frame next v u t g h values e count taken fuel less is inst =
     call_begins r f l n target keys args ts frame v g e count
     ∙ (ap (λ x. when_got x f l ts (after_args r f l target keys g ts)) taken
     ∙ (ap (λ b. if b then m.at f l ts (ends w.fuel_end u) else enter_by g.external r f l target keys (called_instance r.program g keys next u.objects) values ts next (record u { fuel = u.fuel - 1 })) fuel
-    ∙ ap (λ b. enter_by b r f l target keys (called_instance r.program g keys next u.objects) values ts next (record u { fuel = u.fuel - 1 })) is))
+    ∙ (ap (λ x. enter_by g.external r f l target keys (called_instance r.program g keys next x.objects) values ts next x) (sym less)
+    ∙ (ap (λ b. enter_by b r f l target keys (called_instance r.program g keys next t.objects) values ts next t) is
+    ∙ ap (λ x. enter_by external r f l target keys x values ts next t) (sym inst)))))
+
+pub enters_out : (r : run.Setup) (f : Func) (l : ℕ) (target : Option ℕ) (keys : List ℕ) (h : Func) (values : List w.Value) (ts : List m.Task) (frame : w.Frame) (v : w.World) →
+    enter_by true r f l target keys h values ts frame v ≡ m.at f l ts (call_external r.heap r.program f target keys h values frame v)
+unfolding enter_by
+enters_out r f l target keys h values ts frame v = refl
+
+pub enters_in : (r : run.Setup) (f : Func) (l : ℕ) (target : Option ℕ) (keys : List ℕ) (h : Func) (values : List w.Value) (ts : List m.Task) (frame : w.Frame) (v : w.World) →
+    enter_by false r f l target keys h values ts frame v ≡ enter_body r f l target keys h values ts frame v
+unfolding enter_by
+enters_in r f l target keys h values ts frame v = refl
 
 pub call_unspent : (r : run.Setup) (f : Func) (l : ℕ) (n : ℕ) (target : Option ℕ) (keys : List ℕ) (args : List Operand) (ts : List m.Task) (frame next : w.Frame) (v u : w.World) (g : Func) (values : List w.Value) →
     slice_get r.program.fns n ≡ Some g → (length args == g.params) ≡ true → operands_got r.program f args frame v ≡ got values next u → (u.fuel == 0) ≡ true →

@@ -1,5 +1,5 @@
 -- Moves that go on with what is found or given, or end.
-use Rattle.std.proofs.Common.{◌≡◌, ◌==◌, ◌-◌, ℕ, Bool, true, false, if◌then◌else◌, List, None, Result, Ok, Err, IsErrAnd, sym, ap, subst, ◌∙◌}
+use Rattle.std.proofs.Common.{◌≡◌, ◌==◌, ◌-◌, ℕ, Bool, true, false, if◌then◌else◌, List, Option, None, Result, Ok, Err, IsErrAnd, refl, sym, ap, subst, ◌∙◌}
 use Rattle.std.proofs.lemmas.Result.{err_from_is_err_and}
 use Rattle.vlt_core.specs.Core.{Func}
 use Rattle.vlt_meaning.specs.World as w
@@ -15,7 +15,9 @@ use Rattle.vlt_trace_worlds.specs.declared.stops.Stop.{Stop}
 use Rattle.vlt_trace_worlds.specs.declared.stops.Halt.{Halt}
 use Rattle.vlt_trace_worlds.specs.declared.stops.Halt.TheVariants.{Ends, Memory}
 use Rattle.vlt_trace_moves.specs.declared.tasks.Conf.{Conf}
-use Rattle.vlt_trace_moves.specs.Conf.{tasks_in, conf_view, told_conf, ending, Moves}
+use Rattle.vlt_trace_moves.specs.declared.tasks.Outside.{Outside}
+use Rattle.vlt_trace_moves.specs.declared.tasks.Setup.{Setup}
+use Rattle.vlt_trace_moves.specs.Conf.{tasks_in, conf_view, told_conf, ending, Moves, MovesOut}
 
 -- ---- what is found
 
@@ -33,6 +35,12 @@ found_on x a f l ts v go r c e h = subst (λ y. Moves y r c) (sym (found x a f l
 pub found_halts : {A B : Type 0} (view : A → B) (x : Found B) (h : Halt) (go : B → m.Conf) (c : Conf) → Finds view (Err h) x → Moves (when_found x (func_in c.running) c.place (tasks_in c) (world_view c.world) go) (Err h) c
 found_halts view x (Ends s) go c e = not_found x (outcome_of s) (func_in c.running) c.place (tasks_in c) (world_view c.world) go e
 found_halts view x Memory go c e = tt
+
+pub finds_halt : {A B : Type 0} (view : A → B) (y : Result A Halt) (h : Halt) (x : Found B) (go : B → m.Conf) (r : Result (Unit {0}) Halt) (c : Conf) → r ≡ Err h → y ≡ Err h → Finds view y x →
+    Moves (when_found x (func_in c.running) c.place (tasks_in c) (world_view c.world) go) r c
+finds_halt view y h x go r c k e f =
+    subst (λ z. Moves (when_found x (func_in c.running) c.place (tasks_in c) (world_view c.world) go) z c) (sym k)
+    (found_halts view x h go c (subst (λ z. Finds view z x) e f))
 
 -- ---- what is given
 
@@ -57,6 +65,12 @@ given_halts view x (Ends s) frame v go c same e =
     told_given x (outcome_of s) v (func_in c.running) c.place (tasks_in c) go e
     ∙ ap (λ u. m.at (func_in c.running) c.place (tasks_in c) (ends (outcome_of s) (told u))) (sym same)
 given_halts view x Memory frame v go c same e = tt
+
+pub gives_halt : {A B : Type 0} (view : A → B) (y : Result A Halt) (h : Halt) (x : Got B) (frame : w.Frame) (go : B → w.Frame → w.World → m.Conf) (r : Result (Unit {0}) Halt) (c : Conf) → r ≡ Err h → y ≡ Err h → Gives view x y frame (world_view c.world) →
+    Moves (when_got x (func_in c.running) c.place (tasks_in c) go) r c
+gives_halt view y h x frame go r c k e f =
+    subst (λ z. Moves (when_got x (func_in c.running) c.place (tasks_in c) go) z c) (sym k)
+    (given_halts view x h frame (world_view c.world) go c refl (subst (λ z. Gives view x z frame (world_view c.world)) e f))
 
 -- ---- tests
 
@@ -86,6 +100,9 @@ not_spent f l ts v go e = ap (λ b. told_conf (if b then m.at f l ts (ends w.fue
 pub same_move : (x y : m.Conf) (r : Result (Unit {0}) Halt) (c : Conf) → x ≡ y → Moves y r c → Moves x r c
 same_move x y r c e h = subst (λ z. Moves z r c) (sym e) h
 
+pub same_out : (s : Setup) (x y : m.Conf) (r : Result (Option Outside) Halt) (c : Conf) → x ≡ y → MovesOut s y r c → MovesOut s x r c
+same_out s x y r c e h = subst (λ z. MovesOut s z r c) (sym e) h
+
 -- ---- in the words of the code
 
 -- the error that a function returns
@@ -94,6 +111,10 @@ err_is r e h = let told = err_from_is_err_and r h in told.1 ∙ ap Err told.2
 
 pub no_memory : (x : m.Conf) (r : Result (Unit {0}) Halt) (c : Conf) → r ≡ Err Memory → Moves x r c
 no_memory x r c e = subst (λ z. Moves x z c) (sym e) tt
+
+-- the run ends at this configuration
+pub ends_moves : (x : m.Conf) (r : Result (Unit {0}) Halt) (s : Stop) (c : Conf) → r ≡ Err (Ends s) → told_conf x ≡ ending (outcome_of s) c → Moves x r c
+ends_moves x r s c e h = subst (λ z. Moves x z c) (sym e) h
 
 pub stop_ok : {A B : Type 0} (view : A → B) (x : Result A Stop) (a : A) (y : Found B) (f : Func) (l : ℕ) (ts : List m.Task) (v : w.World) (go : B → m.Conf) → x ≡ Ok a → found_of view x ≡ y → when_found y f l ts v go ≡ go (view a)
 stop_ok view x a y f l ts v go e h = found y (view a) f l ts v go (sym (ap (found_of view) e) ∙ h)

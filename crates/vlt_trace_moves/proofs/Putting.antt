@@ -1,5 +1,5 @@
 -- Tasks that are put.
-use Rattle.std.proofs.Common.{◌≡◌, List, [], ◌∷◌, ◌++◌, map, reverse, Result, Ok, Err, refl, sym, ap, subst, ◌∙◌}
+use Rattle.std.proofs.Common.{◌≡◌, List, [], ◌∷◌, ◌++◌, map, reverse, Option, Result, Ok, Err, refl, sym, ap, subst, ◌∙◌}
 use Rattle.std.specs.Borrow.{Bor}
 use Rattle.std.proofs.lemmas.List.{reverse-append}
 use Rattle.vlt_core.specs.Core.{Program}
@@ -18,7 +18,9 @@ use Rattle.vlt_trace_moves.specs.declared.tasks.Task.{Task}
 use Rattle.vlt_trace_moves.specs.declared.tasks.Task.TheVariants as task
 use Rattle.vlt_trace_moves.specs.declared.tasks.At.TheVariants.{Goes}
 use Rattle.vlt_trace_moves.specs.declared.tasks.Conf.{Conf}
-use Rattle.vlt_trace_moves.specs.Conf.{task_view, tasks_view, tasks_in, step_view, PutsTask, Moves}
+use Rattle.vlt_trace_moves.specs.declared.tasks.Setup.{Setup}
+use Rattle.vlt_trace_moves.specs.declared.tasks.Outside.{Outside}
+use Rattle.vlt_trace_moves.specs.Conf.{task_view, tasks_view, tasks_in, step_view, PutsTask, Moves, MovesOut}
 
 map_more : (p : Program) (ts : List Task) (t : Task) → map (task_view p) (ts ++ t ∷ []) ≡ map (task_view p) ts ++ task_view p t ∷ []
 map_more p [] t = refl
@@ -35,6 +37,13 @@ put_memory h y c e = subst (λ z. Moves y (Err z) c) (sym e) tt
 pub put_halts : (p : Program) (t : Task) (x : Result (Unit {0}) Halt) (h : Halt) (r : Result (Unit {0}) Halt) (before after : List Task) (y : m.Conf) (c : Conf) → r ≡ Err h → x ≡ Err h → PutsTask p t x before after → Moves y r c
 put_halts p t x h r before after y c k e f =
     subst (λ z. Moves y z c) (sym k) (put_memory h y c (subst (λ z. PutsTask p t z before after) e f))
+
+pub put_halts_out : (s : Setup) (p : Program) (t : Task) (x : Result (Unit {0}) Halt) (h : Halt) (r : Result (Option Outside) Halt) (before after : List Task) (y : m.Conf) (c : Conf) → r ≡ Err h → x ≡ Err h → PutsTask p t x before after → MovesOut s y r c
+put_halts_out s p t x h r before after y c k e f =
+    subst (λ z. MovesOut s y z c) (sym (k ∙ ap Err (subst (λ z. PutsTask p t z before after) e f))) tt
+
+pub put_ok : (p : Program) (t : Task) (x : Result (Unit {0}) Halt) (u : Unit {0}) (before after : List Task) → x ≡ Ok u → PutsTask p t x before after → tasks_view p after ≡ task_view p t ∷ tasks_view p before
+put_ok p t x u before after e h = subst (λ z. PutsTask p t z before after) e h
 
 -- ---- a block's end and its statements are put
 

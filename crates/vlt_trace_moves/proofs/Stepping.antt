@@ -1,14 +1,13 @@
 -- Steps of the function that runs, as moves.
-use Rattle.std.proofs.Common.{◌≡◌, ℕ, Bool, true, false, List, [], ◌∷◌, map, None, Option, Result, Ok, Err, refl, sym, ap, subst, ◌∙◌}
+use Rattle.std.proofs.Common.{◌≡◌, ℕ, Bool, true, false, List, ◌∷◌, None, Option, Result, Ok, Err, refl, sym, ap, subst, ◌∙◌}
 use Rattle.std.specs.Option.{option_map}
 use Rattle.std.proofs.lemmas.Bool.{false≢true}
 use Rattle.vlt_core.specs.Core as core
 use Rattle.vlt_core.specs.Core.{Form, Simple, simple, call, choose, loop, switch, focus, scope, return, jump, Stmts, done, next}
 use Rattle.vlt_core.specs.LookupViews.{reference_view}
-use Rattle.vlt_core.specs.View.{expr_of, block_of, tok_of}
-use Rattle.vlt_core.specs.declared.held.Tok.{Tok}
-use Rattle.vlt_core.specs.declared.program.Expr.{Expr}
-use Rattle.vlt_core.specs.declared.program.Block.{Block}
+use Rattle.vlt_core.specs.View.{stmts_of, form_of}
+use Rattle.vlt_core.specs.declared.program.Stmt.{Stmt}
+use Rattle.vlt_core.proofs.Views.{stmt_parts}
 use Rattle.vlt_meaning.specs.World as w
 use Rattle.vlt_meaning.specs.Step.{Step, goes, jumps, leaves, ends, left_block, are_unused, where_so}
 use Rattle.vlt_meaning.specs.Run.{focus_end, focus_end_step}
@@ -171,3 +170,16 @@ list_ends s c here = ap (listing s c done) (came_to c place.Goes here) ∙ ap (i
 pub list_next : (s : Setup) (c : Conf) (l : ℕ) (form : Form) (rest : Stmts) → c.at ≡ place.Goes →
     listing s c (next l form rest) (step_in c) ≡ m.act (setup_at s c) (func_in c.running) l form (m.list rest ∷ tasks_in c) (frame_view c.frame) (world_view c.world)
 list_next s c l form rest here = ap (listing s c (next l form rest)) (came_to c place.Goes here)
+
+pub list_begins : (s : Setup) (c : Conf) (x : Stmt) (rest : List Stmt) (us : List m.Task) → c.at ≡ place.Goes → us ≡ m.list (stmts_of rest) ∷ tasks_in c →
+    listing s c (stmts_of (x ∷ rest)) (step_in c) ≡ m.act (setup_at s c) (func_in c.running) x.at (form_of x.form) us (frame_view c.frame) (world_view c.world)
+list_begins s c x rest us here tasks =
+    ap (λ y. listing s c (next y.0 y.1 (stmts_of rest)) (step_in c)) (stmt_parts x)
+    ∙ (list_next s c x.at (form_of x.form) (stmts_of rest) here
+    ∙ ap (λ us. m.act (setup_at s c) (func_in c.running) x.at (form_of x.form) us (frame_view c.frame) (world_view c.world)) (sym tasks))
+
+-- ---- returns
+
+pub hands_end : {A : Type 0} (a : Step) (x : Result A Halt) (h : Halt) (go : A → Step) (r : Result (Unit {0}) Halt) (c : Conf) → r ≡ Err h → x ≡ Err h → Hands a x go (world_view c.world) → Moves (m.at (func_in c.running) c.place (tasks_in c) a) r c
+hands_end a x h go r c k e f =
+    subst (λ z. Moves (in_place c a) z c) (sym k) (hands_halts a h go c (subst (λ z. Hands a z go (world_view c.world)) e f))

@@ -65,27 +65,28 @@ fn values_of(alloc: Global, parts: &[Part]) -> Result<Items<Value>, AllocError>
     Ok(values)
 }
 
-/// An arm begins, with its variables filled.
-fn enter_body<'a>(
+/// An arm's block begins, with the arm's variables filled.
+fn enter_filled<'a>(
     s: &Setup,
     value: &CaseValue,
-    arm: &'a Arm,
+    vars: &[VarId],
+    body: &'a Block,
     c: &mut Conf<'a>,
 ) -> Result<(), Halt>
     requires { c.old.at ≡ Goes }
-    ensures moves { Moves (when_got (filled_got (func_in c.old.running) (vars_of arm.now.vars)
-        (map one (map part_view value.now.parts)) (frame_view c.old.frame)
-        (world_view c.old.world)) (func_in c.old.running) c.old.place (tasks_in c.old)
-        (λ u frame w. enter_block (func_in c.old.running) c.old.place (block_of arm.now.body)
+    ensures moves { Moves (when_got (filled_got (func_in c.old.running) (vars_of vars.now)
+        (map one (case_view value.now).parts) (frame_view c.old.frame) (world_view c.old.world))
+        (func_in c.old.running) c.old.place (tasks_in c.old)
+        (λ u frame w. enter_block (func_in c.old.running) c.old.place (block_of body.now)
         (tasks_in c.old) frame (world_view c.old.world))) result c.new }
     ensures program { program_in c.new.running ≡ program_in c.old.running }
 {
     let values = values_of(s.alloc, value.parts.as_slice())?;
-    fill_all(&c.running, arm.vars.as_slice(), values, &mut c.frame)?;
-    enter_block(&arm.body, c)
+    fill_all(&c.running, vars, values, &mut c.frame)?;
+    enter_block(body, c)
 }
 
-/// The arm of a case begins, with its variables filled.
+/// The arm of a case begins.
 fn enter_arm<'a>(
     s: &Setup,
     value: &CaseValue,
@@ -100,7 +101,7 @@ fn enter_arm<'a>(
 {
     for arm in arms {
         if arm.case == value.case {
-            return enter_body(s, value, arm, c);
+            return enter_filled(s, value, arm.vars.as_slice(), &arm.body, c);
         }
     }
     Err(Halt::Ends(Stop::Fault(Reason::Missing, None)))
@@ -159,13 +160,13 @@ pub fn focus_on<'a>(
     let Some(key) = c.running.func.reference(z) else {
         return Err(Halt::Ends(Stop::Fault(Reason::Missing, None)));
     };
-    let adopter = held_object(guard.key, &c.frame, &c.world.objects)?.number;
-    let number = guarded_object(guard, y, &c.frame, &c.world.objects)?.number;
+    let a = held_object(guard.key, &c.frame, &c.world.objects)?;
+    let n = guarded_object(guard, y, &c.frame, &c.world.objects)?;
     let focus = Focus {
         guard,
         key,
-        adopter,
-        number,
+        adopter: a.number,
+        number: n.number,
     };
     lend(&focus, z, &mut c.frame, &mut c.world)?;
     put_task(&mut c.tasks, Task::Unfocus(focus, body.end))?;

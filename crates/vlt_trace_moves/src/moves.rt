@@ -1,9 +1,9 @@
 //! One move of a run under way.
 
-ghost use Rattle.std.specs.Prelude.{◌≡◌, OnOk, map};
+ghost use Rattle.std.specs.Prelude.{◌≡◌, map, slice_get};
 ghost use Rattle.std.specs.Option.{option_map, option_copied};
 ghost use Rattle.vlt_core.specs.Core.{call as call_form, return as return_form};
-ghost use Rattle.vlt_core.specs.View.{form_of, stmts_of, operand_of, keys_of};
+ghost use Rattle.vlt_core.specs.View.{program_of, func_of, form_of, stmts_of, operand_of, keys_of};
 ghost use Rattle.vlt_meaning.specs.Calls.{back_in};
 ghost use Rattle.vlt_meaning.specs.Step.{leaves};
 ghost use Rattle.vlt_trace_meaning.specs.Machine as m;
@@ -20,7 +20,7 @@ use crate::arms::{focus_on, switch_on};
 use crate::blocks::{choose, close, enter_block, turn, turn_on};
 use crate::tasks::{At, Caller, Conf, Focus, Outside, Setup, Task, put_task};
 use vlt_base::{FnId, Items, KeyId, VarId};
-use vlt_core::{Form, Operand, Stmt};
+use vlt_core::{Form, Func, Operand, Program, Stmt};
 use vlt_trace_calls::{
     Left, callee, deliver, enter_frame, give_back, hand_over, name_kept, pass_objects,
 };
@@ -47,13 +47,12 @@ fn enter_body<'a>(
     args: Items<Value>,
     c: &mut Conf<'a>,
 ) -> Result<(), Halt>
-    requires { c.old.at ≡ Goes }
-    ensures moves { callee.program.now ≡ c.old.running.program.now → Moves (enter_body
-        (setup_at s.now c.old) (func_in c.old.running) c.old.place (option_map (λ v. v.0) target)
-        (keys_of keys.now) (func_in callee) (map value_view args) (tasks_in c.old)
-        (frame_view c.old.frame) (world_view c.old.world)) result c.new }
-    ensures program { callee.program.now ≡ c.old.running.program.now →
-        program_in c.new.running ≡ program_in c.old.running }
+    requires goes { c.old.at ≡ Goes }
+    requires program { callee.program.now ≡ c.old.running.program.now }
+    ensures moves { Moves (enter_body (setup_at s.now c.old) (func_in c.old.running) c.old.place
+        (option_map (λ v. v.0) target) (keys_of keys.now) (func_in callee) (map value_view args)
+        (tasks_in c.old) (frame_view c.old.frame) (world_view c.old.world)) result c.new }
+    ensures program { program_in c.new.running ≡ program_in c.old.running }
 {
     if c.frame.depth >= s.depth {
         return Err(Halt::Ends(Stop::DepthEnd));
@@ -78,6 +77,12 @@ fn enter_body<'a>(
     Ok(())
 }
 
+fn function_at(p: &Program, f: FnId) -> Option<&Func>
+    ensures { option_map func_of (option_copied result) ≡ slice_get (program_of p.now).fns f.0 }
+{
+    p.fns.get(f.0 as usize)
+}
+
 /// `target = f(..);`
 fn call<'a>(
     s: &Setup,
@@ -93,7 +98,7 @@ fn call<'a>(
     ensures program { program_in c.new.running ≡ program_in c.old.running }
 {
     let program = c.running.program;
-    let Some(func) = program.fns.get(f.0 as usize) else {
+    let Some(func) = function_at(program, f) else {
         return Err(Halt::Ends(Stop::Fault(Reason::Missing, None)));
     };
     if args.len() != func.params as usize {
@@ -172,16 +177,27 @@ fn list<'a>(s: &Setup, stmts: &'a [Stmt], c: &mut Conf<'a>) -> Result<Option<Out
     ensures program { program_in c.new.running ≡ program_in c.old.running }
 {
     match c.at {
-        At::Goes => {}
-        At::Jumps { .. } => return Ok(None),
-        At::Leaves(_) => return Ok(None),
+        At::Goes => next(s, stmts, c),
+        At::Jumps { .. } => Ok(None),
+        At::Leaves(_) => Ok(None),
     }
-    let Some((first, rest)) = stmts.split_first() else {
-        return Ok(None);
-    };
-    put_task(&mut c.tasks, Task::List(rest))?;
-    c.place = first.at;
-    act(s, &first.form, c)
+}
+
+/// The next statement of a list.
+fn next<'a>(s: &Setup, stmts: &'a [Stmt], c: &mut Conf<'a>) -> Result<Option<Outside<'a>>, Halt>
+    requires { c.old.at ≡ Goes }
+    ensures moves { MovesOut s.now (list_moves (setup_at s.now c.old) (func_in c.old.running)
+        c.old.place (stmts_of stmts.now) (tasks_in c.old) (step_in c.old)) result c.new }
+    ensures program { program_in c.new.running ≡ program_in c.old.running }
+{
+    match stmts.split_first() {
+        None => Ok(None),
+        Some((first, rest)) => {
+            put_task(&mut c.tasks, Task::List(rest))?;
+            c.place = first.at;
+            act(s, &first.form, c)
+        }
+    }
 }
 
 /// The end of a focus. A step that goes on comes to its brace.
