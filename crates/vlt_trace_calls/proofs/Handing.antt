@@ -5,7 +5,7 @@ use Rattle.std.specs.Option.{option_map}
 use Rattle.vlt_core.specs.Core.{Entry, Func}
 use Rattle.vlt_core.specs.Lookups.{is_held_before, is_new}
 use Rattle.vlt_meaning.specs.World as w
-use Rattle.vlt_meaning.specs.Objects.{with_owner}
+use Rattle.vlt_meaning.specs.Objects.{with_owner, with_changed_object}
 use Rattle.vlt_meaning.specs.Calls.{caller_object, changed_if, handed_over, is_new_key, callee_key, callee_frame}
 use Rattle.vlt_trace_worlds.specs.declared.worlds.Value.{Value}
 use Rattle.vlt_trace_worlds.specs.View.{value_view, var_in, key_in}
@@ -21,6 +21,17 @@ hand_one keys frame e es objects h =
 pub hand_none : (keys : List ℕ) (frame : w.Frame) (e : Entry) (es : List Entry) (objects : List w.Object) → is_held_before e ≡ false → handed_over keys frame (e ∷ es) objects ≡ handed_over keys frame es objects
 hand_none keys frame e es objects h =
     ap (λ b. if b then changed_if (caller_object keys frame e) (with_owner (w.held (suc frame.depth) e.key)) (handed_over keys frame es objects) else handed_over keys frame es objects) h
+
+-- the first entry's object is handed over after the others
+pub hand_first : (keys : List ℕ) (frame : w.Frame) (e : Entry) (es : List Entry) (objects : List w.Object) → handed_over keys frame (e ∷ es) objects ≡ handed_over keys frame (e ∷ []) (handed_over keys frame es objects)
+hand_first keys frame e es objects = refl
+
+pub hand_some : (keys : List ℕ) (frame : w.Frame) (e : Entry) (n : ℕ) (objects : List w.Object) → is_held_before e ≡ true → caller_object keys frame e ≡ Some n →
+    handed_over keys frame (e ∷ []) objects ≡ with_changed_object n (with_owner (w.held (suc frame.depth) e.key)) objects
+hand_some keys frame e n objects h k = hand_one keys frame e [] objects h ∙ ap (λ o. changed_if o (with_owner (w.held (suc frame.depth) e.key)) objects) k
+
+pub hand_nothing : (keys : List ℕ) (frame : w.Frame) (e : Entry) (objects : List w.Object) → is_held_before e ≡ true → caller_object keys frame e ≡ None → handed_over keys frame (e ∷ []) objects ≡ objects
+hand_nothing keys frame e objects h k = hand_one keys frame e [] objects h ∙ ap (λ o. changed_if o (with_owner (w.held (suc frame.depth) e.key)) objects) k
 
 -- ---- the frame
 

@@ -1,4 +1,5 @@
 pub mod Handing
 pub mod Instances
+pub mod Loops
 pub mod Passing
 pub mod Returning

@@ -1,11 +1,11 @@
 -- Keys that come back to the caller, entry by entry.
-use Rattle.std.proofs.Common.{◌≡◌, ℕ, true, false, cond, List, [], ◌∷◌, ◌++◌, filter, Option, Some, None, slice_get, refl, ap, sym, ◌∙◌}
+use Rattle.std.proofs.Common.{◌≡◌, ℕ, true, false, cond, List, [], ◌∷◌, ◌++◌, filter, Option, Some, None, slice_get, Result, Ok, Err, OnOk, refl, ap, sym, ◌∙◌}
 use Rattle.std.specs.Option.{option_map, option_to_list}
 use Rattle.vlt_core.specs.Core.{Entry}
 use Rattle.vlt_core.specs.Lookups.{is_held_after}
-use Rattle.vlt_meaning.specs.World.{held, Object, Frame}
+use Rattle.vlt_meaning.specs.World.{held, Object, World, Frame}
 use Rattle.vlt_meaning.specs.Objects.{with_owner, with_changed_object}
-use Rattle.vlt_meaning.specs.Step.{with_key}
+use Rattle.vlt_meaning.specs.Step.{with_key, with_objects}
 use Rattle.vlt_meaning.specs.Calls.{Binding, binding, bindings, with_names, with_holders}
 
 -- an entry that isn't held after has no object
@@ -39,3 +39,16 @@ holders_after d (x ∷ xs) ys objects = holders_after d xs ys (with_changed_obje
 pub names_keep_depth : (bs : List Binding) (frame : Frame) → (with_names bs frame).depth ≡ frame.depth
 names_keep_depth [] frame = refl
 names_keep_depth (b ∷ bs) frame = names_keep_depth bs (with_key b.key b.number frame)
+
+-- the frame and the world once the first one is named
+pub named_frame : (xs ys : List Binding) (frame mid next : Frame) → mid ≡ with_names xs frame → next ≡ with_names ys mid → next ≡ with_names (xs ++ ys) frame
+named_frame xs ys frame mid next e h = h ∙ (ap (with_names ys) e ∙ sym (names_after xs ys frame))
+
+pub named_world : (d c : ℕ) (xs ys : List Binding) (w v u : World) → c ≡ d → v ≡ with_objects w (with_holders d xs w.objects) → u ≡ with_objects v (with_holders c ys v.objects) → u ≡ with_objects w (with_holders d (xs ++ ys) w.objects)
+named_world d c xs ys w v u same e h =
+    h ∙ (ap (λ d. with_objects v (with_holders d ys v.objects)) same
+    ∙ (ap (λ x. with_objects x (with_holders d ys x.objects)) e ∙ ap (with_objects w) (sym (holders_after d xs ys w.objects))))
+
+pub on_ok : {T E : Type 0} {P Q : Type 0} (r : Result T E) → (P → Q) → OnOk r P → OnOk r Q
+on_ok (Ok a) f h = f h
+on_ok (Err e) f h = h

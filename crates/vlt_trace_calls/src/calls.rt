@@ -1,10 +1,10 @@
 //! Calls: the keys of a clause, handed to the callee and back.
 
-ghost use Rattle.std.specs.Prelude.{◌≡◌, ℕ, suc, IfOk, OnOk, map, Some, filter};
+ghost use Rattle.std.specs.Prelude.{◌≡◌, ◌==◌, ◌&&◌, ◌∷◌, [], ℕ, suc, IfOk, OnOk, map, Some, filter};
 ghost use Rattle.std.specs.Option.{option_map, option_to_list};
 ghost use Rattle.vlt_core.specs.Instances.{bound_in};
 ghost use Rattle.vlt_core.specs.View.{program_of, func_of, keys_of};
-ghost use Rattle.vlt_core.specs.Lookups.{is_held_after};
+ghost use Rattle.vlt_core.specs.Lookups.{is_held_after, is_new};
 ghost use Rattle.vlt_meaning.specs.World as w;
 ghost use Rattle.vlt_meaning.specs.Step.{deliver, with_objects};
 ghost use Rattle.vlt_meaning.specs.Calls.{passed_object, passed_objects, state_under, called_instance, handed_over, is_new_key, callee_key, callee_frame, binding, bindings, with_names, with_holders};
@@ -43,6 +43,27 @@ fn passed_object<'a>(
     }
 }
 
+/// The object of an entry, if it is held before, is held in a state of the entry.
+fn pass_entry(
+    callee: &Running<'_>,
+    keys: &[KeyId],
+    frame: &Frame,
+    objects: &[Object],
+    e: &Entry,
+) -> Result<(), Stop>
+    ensures { found_of (λ u. u) result ≡ tested (passed_objects (program_in callee.now)
+        (func_in callee.now) (keys_of keys.now) (frame_view frame.now) (objects_view objects.now)
+        (entry_seen callee.now e.now ∷ [])) }
+{
+    if !is_before(e) {
+        return Ok(());
+    }
+    match passed_object(callee, keys, frame, objects, e) {
+        Err(stop) => Err(stop),
+        Ok(_) => Ok(()),
+    }
+}
+
 /// The objects of the entries that are held before are held, each in a state of its entry.
 pub fn pass_objects(
     callee: &Running<'_>,
@@ -56,10 +77,8 @@ pub fn pass_objects(
         (entries_seen callee.now entries.now)) }
 {
     for e in entries {
-        if is_before(e) {
-            if let Err(stop) = passed_object(callee, keys, frame, objects, e) {
-                return Err(stop);
-            }
+        if let Err(stop) = pass_entry(callee, keys, frame, objects, e) {
+            return Err(stop);
         }
     }
     Ok(())
@@ -129,26 +148,50 @@ pub fn hand_over(
         None => {}
         Some((e, rest)) => {
             hand_over(callee, keys, frame, depth, rest, world);
-            if is_before(e) {
-                if let Some(n) = caller_object(keys, frame, e.key) {
-                    world.set_owner(
-                        n,
-                        Owner::Held {
-                            depth,
-                            key: e.key.0,
-                        },
-                    );
-                }
-            }
+            hand_one(callee, keys, frame, depth, e, world);
         }
     }
+}
+
+/// The callee holds the object of an entry, if that is held before.
+fn hand_one(
+    callee: &Running<'_>,
+    keys: &[KeyId],
+    frame: &Frame,
+    depth: u32,
+    e: &Entry,
+    world: &mut World,
+)
+    requires { depth ≡ suc frame.now.depth }
+    ensures { world_view world.new ≡ with_objects (world_view world.old)
+        (handed_over (keys_of keys.now) (frame_view frame.now)
+        (entry_seen callee.now e.now ∷ []) (objects_view world.old.objects.items)) }
+{
+    if !is_before(e) {
+        return;
+    }
+    match caller_object(keys, frame, e.key) {
+        None => {}
+        Some(n) => {
+            let key = e.key.0;
+            world.set_owner(n, Owner::Held { depth, key });
+        }
+    }
+}
+
+/// Whether an entry is for a new object under this key.
+fn is_new_at(callee: &Running<'_>, e: &Entry, k: usize) -> bool
+    ensures { result ≡ (is_new (entry_seen callee.now e.now)
+        && (entry_seen callee.now e.now).key == k) }
+{
+    is_new(e) && e.key.0 as usize == k
 }
 
 fn is_new_key(callee: &Running<'_>, k: usize) -> bool
     ensures { result ≡ is_new_key (func_in callee.now) k }
 {
     for e in callee.func.clause.as_slice() {
-        if is_new(e) && e.key.0 as usize == k {
+        if is_new_at(callee, e, k) {
             return true;
         }
     }
@@ -253,17 +296,21 @@ pub fn name_kept(
         (filter is_held_after (entries_seen callee.now entries.now)) kept.now)
         (objects_view world.old.objects.items))) }
 {
-    let Some((e, rest)) = entries.split_first() else {
-        return Ok(());
-    };
-    if !is_after(e) {
-        return name_kept(callee, keys, rest, kept, frame, world);
+    match entries.split_first() {
+        None => Ok(()),
+        Some((e, rest)) => {
+            if !is_after(e) {
+                return name_kept(callee, keys, rest, kept, frame, world);
+            }
+            match kept.split_first() {
+                None => Ok(()),
+                Some((n, later)) => {
+                    name_one(key_at(keys, e.key.0 as usize), *n, frame, world)?;
+                    name_kept(callee, keys, rest, later, frame, world)
+                }
+            }
+        }
     }
-    let Some((n, later)) = kept.split_first() else {
-        return Ok(());
-    };
-    name_one(key_at(keys, e.key.0 as usize), *n, frame, world)?;
-    name_kept(callee, keys, rest, later, frame, world)
 }
 
 /// The caller's key, if it has one, names the object, and holds it.

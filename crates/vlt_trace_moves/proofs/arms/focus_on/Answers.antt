@@ -17,20 +17,20 @@ use Rattle.vlt_trace_moves.proofs.Putting.{put_ok, put_halts}
 use Rattle.vlt_trace_moves.proofs.Opening.{focus_begins, focused_as}
 use Rattle.vlt_trace_moves.proofs.arms.focus_on.Goals as goal
 
-pub returns-in_None-clause-moves : goal.returns-in_None-clause-moves
-returns-in_None-clause-moves c =
+pub returns-in_default-clause-moves : goal.returns-in_default-clause-moves
+returns-in_default-clause-moves c =
     let k = c.args.c.now in
     not_found (or_fault w.missing (guarded_of (func_in k.running) c.args.y.0)) (w.fault w.missing None) (func_in k.running) k.place (tasks_in k) (world_view k.world) _
-    (ap (or_fault w.missing) (ap (option_map reference_view) (sym c.in-None.is) ∙ c.guarded.ensures))
+    (ap (or_fault w.missing) (ap (option_map reference_view) (sym c.in_default.is) ∙ c.guarded.ensures))
 
-pub returns-in_None-2-clause-moves : goal.returns-in_None-2-clause-moves
-returns-in_None-2-clause-moves c =
+pub returns-in_default-reference-clause-moves : goal.returns-in_default-reference-clause-moves
+returns-in_default-reference-clause-moves c =
     let k = c.args.c.now in
     let f = func_in k.running in
     found_on (or_fault w.missing (guarded_of f c.args.y.0)) (reference_view c.in-Some.guard) f k.place (tasks_in k) (world_view k.world) _ (Err _) k
     (ap (or_fault w.missing) (ap (option_map reference_view) (sym c.in-Some.is) ∙ c.guarded.ensures))
     (not_found (or_fault w.missing (reference_of f c.args.z.0)) (w.fault w.missing None) f k.place (tasks_in k) (world_view k.world) _
-    (ap (or_fault w.missing) (ap (option_map reference_view) (sym c.in-None-2.is) ∙ c.reference.ensures)))
+    (ap (or_fault w.missing) (ap (option_map reference_view) (sym c.in_default-reference.is) ∙ c.reference.ensures)))
 
 pub returns-in_err-a-clause-moves : goal.returns-in_err-a-clause-moves
 returns-in_err-a-clause-moves c =
@@ -38,8 +38,8 @@ returns-in_err-a-clause-moves c =
     let f = func_in k.running in
     found_on (or_fault w.missing (guarded_of f c.args.y.0)) (reference_view c.in-Some.guard) f k.place (tasks_in k) (world_view k.world) _ c.from_residual.result k
     (ap (or_fault w.missing) (ap (option_map reference_view) (sym c.in-Some.is) ∙ c.guarded.ensures))
-    (found_on (or_fault w.missing (reference_of f c.args.z.0)) (reference_view c.in-Some-2.key) f k.place (tasks_in k) (world_view k.world) _ c.from_residual.result k
-    (ap (or_fault w.missing) (ap (option_map reference_view) (sym c.in-Some-2.is) ∙ c.reference.ensures))
+    (found_on (or_fault w.missing (reference_of f c.args.z.0)) (reference_view c.in-Some-reference.key) f k.place (tasks_in k) (world_view k.world) _ c.from_residual.result k
+    (ap (or_fault w.missing) (ap (option_map reference_view) (sym c.in-Some-reference.is) ∙ c.reference.ensures))
     (stop_err named_view c.held_object.result c.in_err-a.field-0.0 _ _ c.from_residual.result k
     (err_is c.from_residual.result _ c.from_residual.ensures.1) c.in_err-a.was (rw c.deref.ensures.value at c.held_object.ensures)))
 
@@ -50,8 +50,8 @@ returns-in_err-n-clause-moves c =
     let r = c.from_residual-in_err-n.result in
     found_on (or_fault w.missing (guarded_of f c.args.y.0)) (reference_view c.in-Some.guard) f k.place (tasks_in k) (world_view k.world) _ r k
     (ap (or_fault w.missing) (ap (option_map reference_view) (sym c.in-Some.is) ∙ c.guarded.ensures))
-    (found_on (or_fault w.missing (reference_of f c.args.z.0)) (reference_view c.in-Some-2.key) f k.place (tasks_in k) (world_view k.world) _ r k
-    (ap (or_fault w.missing) (ap (option_map reference_view) (sym c.in-Some-2.is) ∙ c.reference.ensures))
+    (found_on (or_fault w.missing (reference_of f c.args.z.0)) (reference_view c.in-Some-reference.key) f k.place (tasks_in k) (world_view k.world) _ r k
+    (ap (or_fault w.missing) (ap (option_map reference_view) (sym c.in-Some-reference.is) ∙ c.reference.ensures))
     (found_on _ (named_view c.in_ok-a.a) f k.place (tasks_in k) (world_view k.world) _ r k
     (ok_stop named_view c.held_object.result c.in_ok-a.a _ c.in_ok-a.was (rw c.deref.ensures.value at c.held_object.ensures))
     (stop_err named_view c.guarded_object.result c.in_err-n.field-0.0 _ _ r k
@@ -75,14 +75,14 @@ returns-clause-moves c =
     let u = world_view k.world in
     let b = block_of c.args.body.now in
     let g = reference_view c.in-Some.guard in
-    let q = reference_view c.in-Some-2.key in
+    let q = reference_view c.in-Some-reference.key in
     let a = named_view c.in_ok-a.a in
     let n = named_view c.in_ok-n.n in
     let d = record k { frame = c.lend.new.frame; world = c.lend.new.world; tasks = c.put_task.new.tasks } in
     same_move _ _ c.enter_block.result c.enter_block.new.c
     (focus_begins (setup_at c.args.s.now k) f k.place c.args.y.0 c.args.z.0 b (tasks_in k) fr u g q a n
     (ap (or_fault w.missing) (ap (option_map reference_view) (sym c.in-Some.is) ∙ c.guarded.ensures))
-    (ap (or_fault w.missing) (ap (option_map reference_view) (sym c.in-Some-2.is) ∙ c.reference.ensures))
+    (ap (or_fault w.missing) (ap (option_map reference_view) (sym c.in-Some-reference.is) ∙ c.reference.ensures))
     (ok_stop named_view c.held_object.result c.in_ok-a.a _ c.in_ok-a.was (rw c.deref.ensures.value at c.held_object.ensures))
     (ok_stop named_view c.guarded_object.result c.in_ok-n.n _ c.in_ok-n.was (rw c.deref-2.ensures.value at c.guarded_object.ensures))
     ∙ focused_as f k.place c.args.z.0 b g q a.number n.number (tasks_in k) (tasks_in d) fr (frame_view d.frame) u (world_view d.world) (out-Block c.args.body.now).end

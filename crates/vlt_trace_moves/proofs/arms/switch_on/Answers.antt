@@ -20,11 +20,11 @@ use Rattle.vlt_trace_moves.proofs.Moving.{err_is, no_memory, not_found, found_on
 use Rattle.vlt_trace_moves.proofs.Opening.{switch_begins}
 use Rattle.vlt_trace_moves.proofs.arms.switch_on.Goals as goal
 
-pub returns-in_None-clause-moves : goal.returns-in_None-clause-moves
-returns-in_None-clause-moves c = λ end.
+pub returns-in_default-clause-moves : goal.returns-in_default-clause-moves
+returns-in_default-clause-moves c = λ end.
     let k = c.args.c.now in
     not_found (or_fault w.missing (variant_of (func_in k.running) c.args.v.0)) (w.fault w.missing None) (func_in k.running) k.place (tasks_in k) (world_view k.world) _
-    (ap (or_fault w.missing) (ap (option_map variant_view) (sym c.in-None.is) ∙ c.variant.ensures))
+    (ap (or_fault w.missing) (ap (option_map variant_view) (sym c.in_default.is) ∙ c.variant.ensures))
 
 pub returns-in_err-value-clause-moves : goal.returns-in_err-value-clause-moves
 returns-in_err-value-clause-moves c = λ end.

@@ -13,11 +13,11 @@ use Rattle.vlt_trace_moves.proofs.Moving.{err_is, same_move, same_out, given_hal
 use Rattle.vlt_trace_moves.proofs.Entering.{out_halts, out_ends, no_function, other_count, counted, miscounted, call_begins, call_spent, call_unspent, enters_out, enters_in}
 use Rattle.vlt_trace_moves.proofs.moves.call.Goals as goal
 
-pub returns-in_None-clause-moves : goal.returns-in_None-clause-moves
-returns-in_None-clause-moves c =
+pub returns-in_default-clause-moves : goal.returns-in_default-clause-moves
+returns-in_default-clause-moves c =
     let k = c.args.c.now in
     no_function (setup_at c.args.s.now k) (func_in k.running) k.place c.args.f.0 (option_map (λ v. v.0) c.args.target) (keys_of c.args.keys.now) (map operand_of c.args.args.now) (tasks_in k) (frame_view k.frame) (world_view k.world)
-    (sym c.function_at.ensures ∙ ap (λ o. option_map func_of (option_copied o)) c.in-None.is)
+    (sym c.function_at.ensures ∙ ap (λ o. option_map func_of (option_copied o)) c.in_default.is)
 
 pub returns-then-args-params-clause-moves : goal.returns-then-args-params-clause-moves
 returns-then-args-params-clause-moves c =

@@ -32,11 +32,11 @@ returns-in_err-pass_objects-clause-moves c =
     let keys = keys_of c.args.keys.now in
     let fr = frame_view k.frame in
     let v = world_view k.world in
-    let es = entries_seen callee c.as_slice.result.now in
+    let es = entries_seen callee c.as_slice-entries.result.now in
     let deep : nat_lt k.frame.depth s.depth ≡ true = grind (arith, nat_tests) in
     ends_moves _ c.from_residual.result c.in_err-pass_objects.field-0.0 k (err_is c.from_residual.result _ c.from_residual.ensures.1)
     (pass_halts (setup_at s k) (func_in k.running) k.place (option_map (λ v. v.0) c.args.target) keys g (map value_view c.args.args) (tasks_in k) fr v (outcome_of c.in_err-pass_objects.field-0.0) es deep
-    (clause_seen callee ∙ ap (entries_seen callee) (sym c.as_slice.ensures))
+    (clause_seen callee ∙ ap (entries_seen callee) (sym c.as_slice-entries.ensures))
     (ap (λ q. tested (passed_objects q g keys fr v.objects es)) (sym (ap program_of c.requires.program))
     ∙ (sym (rw c.deref.ensures.value at c.pass_objects.ensures) ∙ ap (found_of (λ u. u)) c.in_err-pass_objects.was)))
 
@@ -66,12 +66,12 @@ returns-clause-moves c =
     let args = map value_view c.args.args in
     let fr = frame_view k.frame in
     let v = world_view k.world in
-    let es = entries_seen callee c.as_slice.result.now in
+    let es = entries_seen callee c.as_slice-entries.result.now in
     let deep : nat_lt k.frame.depth s.depth ≡ true = grind (arith, nat_tests) in
     let same : program_in callee ≡ p = ap program_of c.requires.program in
     let target = option_map (λ v. v.0) c.args.target in
     entered (setup_at s k) (func_in k.running) k.place target keys g args (tasks_in k) fr v es deep
-    (clause_seen callee ∙ ap (entries_seen callee) (sym c.as_slice.ensures))
+    (clause_seen callee ∙ ap (entries_seen callee) (sym c.as_slice-entries.ensures))
     (ap (λ q. tested (passed_objects q g keys fr v.objects es)) (sym same)
     ∙ (sym (rw c.deref.ensures.value at c.pass_objects.ensures) ∙ ap (found_of (λ u. u)) c.in_ok-pass_objects.was))
     ∙ same_going g g.end (m.list g.body ∷ m.back (record { func = func_in k.running; place = k.place; frame = fr; target = target; keys = keys }) ∷ tasks_in k) (tasks_view (program_in callee) c.put_task-2.new.tasks.items)
@@ -79,7 +79,7 @@ returns-clause-moves c =
     (tasks_entered p (program_in callee) _ _ k.tasks.items c.put_task.new.tasks.items c.put_task-2.new.tasks.items (m.list g.body) _ same
     (put_ok p _ c.put_task.result c.in_ok-put_task.field-0 k.tasks.items c.put_task.new.tasks.items c.in_ok-put_task.was (c.put_task.ensures p))
     (put_ok p _ c.put_task-2.result c.in_ok-put_task-2.field-0 c.put_task.new.tasks.items c.put_task-2.new.tasks.items c.in_ok-put_task-2.was (c.put_task-2.ensures p))
-    (ap (λ ss. m.list (stmts_of ss)) (sym c.as_slice-2.ensures))
+    (ap (λ ss. m.list (stmts_of ss)) (sym c.as_slice.ensures))
     (ap (λ x. m.back (record { func = func_in k.running; place = k.place; frame = frame_view x; target = target; keys = keys })) (sym c.replace.ensures.value)))
     (sym (ap frame_view c.replace.ensures.after ∙ c.in_ok-frame.ensures))
     (sym c.hand_over.ensures)

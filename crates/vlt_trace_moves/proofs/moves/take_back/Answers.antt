@@ -19,7 +19,7 @@ returns-clause-moves c =
     let u = world_view c.name_kept.new.world in
     taken_on _ _ c.deliver.result (record k { frame = c.deliver.new.frame; world = c.name_kept.new.world }) c.requires
     (taken_back (func_in k.running) (option_map (λ v. v.0) c.args.target) (keys_of c.args.keys.now) (func_in c.args.callee.now) (frame_view k.frame) mid (option_map value_view c.args.value) c.args.kept.now (world_view k.world) u
-    (entries_seen c.args.callee.now c.as_slice.result.now)
-    (clause_seen c.args.callee.now ∙ ap (entries_seen c.args.callee.now) (sym c.as_slice.ensures))
+    (entries_seen c.args.callee.now c.as_slice-entries.result.now)
+    (clause_seen c.args.callee.now ∙ ap (entries_seen c.args.callee.now) (sym c.as_slice-entries.ensures))
     c.in_ok-name_kept.ensures.frame c.in_ok-name_kept.ensures.world)
     (c.deliver.ensures u)
