@@ -1,5 +1,6 @@
+pub mod Checking
 pub mod Handing
 pub mod Instances
-pub mod Loops
+pub mod Leaving
 pub mod Passing
 pub mod Returning

@@ -3,7 +3,7 @@ use Rattle.std.specs.List.{list_any}
 use Rattle.vlt_core.specs.Lookups.{is_new}
 use Rattle.vlt_trace_calls.specs.Clauses.{entry_seen, entries_seen}
 use Rattle.vlt_trace_calls.proofs.Instances.{clause_seen}
-use Rattle.vlt_trace_calls.proofs.Loops.{split_at, none_left}
+use Rattle.vlt_trace_steps.proofs.Loops.{split_at, none_left}
 use Rattle.vlt_trace_calls.proofs.calls.is_new_key.Goals as goal
 
 pub loop-e-init : goal.loop-e-init

@@ -5,7 +5,7 @@ use Rattle.vlt_trace_worlds.specs.View.{found_of, objects_view, frame_view, outc
 use Rattle.vlt_trace_worlds.specs.Running.{program_in, func_in}
 use Rattle.vlt_trace_calls.specs.Clauses.{entry_seen, entries_seen, tested}
 use Rattle.vlt_trace_calls.proofs.Passing.{pass_next, pass_ends}
-use Rattle.vlt_trace_calls.proofs.Loops.{split_at, none_left}
+use Rattle.vlt_trace_steps.proofs.Loops.{split_at, none_left}
 use Rattle.vlt_trace_calls.proofs.calls.pass_objects.Goals as goal
 
 pub loop-e-preserved : goal.loop-e-preserved
