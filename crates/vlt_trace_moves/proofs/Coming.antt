@@ -14,7 +14,7 @@ use Rattle.vlt_trace_worlds.specs.View.{value_view, frame_view, world_view}
 use Rattle.vlt_trace_worlds.specs.Running.{program_in, func_in}
 use Rattle.vlt_trace_worlds.specs.Steps.{Goes, told}
 use Rattle.vlt_trace_worlds.specs.declared.stops.Halt.{Halt}
-use Rattle.vlt_trace_calls.specs.declared.returns.Left.{Left}
+use Rattle.vlt_trace_moves.specs.declared.returns.Left.{Left}
 use Rattle.vlt_trace_moves.specs.declared.tasks.Caller.{Caller}
 use Rattle.vlt_trace_moves.specs.declared.tasks.Task.TheVariants as task
 use Rattle.vlt_trace_moves.specs.declared.tasks.At.{At}

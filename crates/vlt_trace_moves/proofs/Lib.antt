@@ -1,5 +1,7 @@
+pub mod Checking
 pub mod Coming
 pub mod Entering
+pub mod Leaving
 pub mod Moving
 pub mod Opening
 pub mod Putting

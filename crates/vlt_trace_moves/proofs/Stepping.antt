@@ -21,7 +21,7 @@ use Rattle.vlt_trace_worlds.specs.declared.worlds.Frame.{Frame}
 use Rattle.vlt_trace_worlds.specs.declared.worlds.World.{World}
 use Rattle.vlt_trace_steps.specs.Does.{Does, is_simple}
 use Rattle.vlt_trace_steps.specs.Hands.{Hands}
-use Rattle.vlt_trace_calls.specs.declared.returns.Left.{Left}
+use Rattle.vlt_trace_moves.specs.declared.returns.Left.{Left}
 use Rattle.vlt_trace_moves.specs.declared.tasks.Focus.{Focus}
 use Rattle.vlt_trace_moves.specs.declared.tasks.Task.TheVariants as task
 use Rattle.vlt_trace_moves.specs.declared.tasks.At.{At}

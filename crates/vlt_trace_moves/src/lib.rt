@@ -6,7 +6,9 @@
 mod arms;
 mod blocks;
 mod moves;
+mod returns;
 mod tasks;
 
 pub use moves::step;
+pub use returns::Left;
 pub use tasks::{At, Caller, Conf, Focus, Outside, Setup, Task, put_task};

@@ -18,12 +18,11 @@ ghost use Rattle.vlt_trace_moves.specs.Conf.{task_view, tasks_in, step_in, setup
 
 use crate::arms::{focus_on, switch_on};
 use crate::blocks::{choose, close, enter_block, turn, turn_on};
+use crate::returns::{Left, give_back};
 use crate::tasks::{At, Caller, Conf, Focus, Outside, Setup, Task, put_task};
 use vlt_base::{FnId, Items, KeyId, VarId};
 use vlt_core::{Form, Func, Operand, Program, Stmt};
-use vlt_trace_calls::{
-    Left, callee, deliver, enter_frame, give_back, hand_over, name_kept, pass_objects,
-};
+use vlt_trace_calls::{callee, deliver, enter_frame, hand_over, name_kept, pass_objects};
 use vlt_trace_steps::{do_simple, end_focus, operands};
 use vlt_trace_worlds::{Halt, Reason, Running, Stop, Value};
 

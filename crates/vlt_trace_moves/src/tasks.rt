@@ -3,10 +3,10 @@
 ghost use Rattle.vlt_core.specs.Core as core;
 ghost use Rattle.vlt_trace_moves.specs.Conf.{PutsTask};
 
+use crate::returns::Left;
 use std::alloc::Global;
 use vlt_base::{Items, KeyId, VarId};
 use vlt_core::{Block, Expr, Func, Reference, Stmt, Tok};
-use vlt_trace_calls::Left;
 use vlt_trace_worlds::{Frame, Halt, Running, Value, World};
 
 /// What never changes in a run, beside its program.

@@ -1,11 +1,11 @@
-use Rattle.std.proofs.Common.{◌≡◌, ◌<◌, ◌+◌, length, map, drop, Ok, sym, ap, ◌∙◌, arith}
+use Rattle.std.proofs.Common.{◌≡◌, ◌∷◌, ◌<◌, ◌+◌, length, map, drop, Ok, sym, ap, ◌∙◌, arith}
 use Rattle.vlt_core.specs.View.{keys_of}
 use Rattle.vlt_meaning.specs.Calls.{passed_objects}
 use Rattle.vlt_trace_worlds.specs.View.{found_of, objects_view, frame_view, outcome_of}
 use Rattle.vlt_trace_worlds.specs.Running.{program_in, func_in}
 use Rattle.vlt_trace_calls.specs.Clauses.{entry_seen, entries_seen, tested}
 use Rattle.vlt_trace_calls.proofs.Passing.{pass_next, pass_ends}
-use Rattle.vlt_trace_steps.proofs.Loops.{split_at, none_left}
+use Rattle.std.proofs.lemmas.List.{at_drop_more, at_drop_all}
 use Rattle.vlt_trace_calls.proofs.calls.pass_objects.Goals as goal
 
 pub loop-e-preserved : goal.loop-e-preserved
@@ -22,7 +22,7 @@ loop-e-preserved c =
     let rest = drop (i + 1) es in
     let lt : i < length es = omega arith in
     sym (pass_next p g keys fr objects (entry_seen at e) (entries_seen at rest) (sym c.pass_entry.ensures ∙ ap (found_of (λ u. u)) c.in-Ok.is))
-    ∙ (ap (λ l. tested (passed_objects p g keys fr objects (entries_seen at l))) (sym (split_at es i e lt c.e-item.is)) ∙ c.loop-e.invariant)
+    ∙ (ap (λ l. tested (passed_objects p g keys fr objects (entries_seen at l))) (sym (at_drop_more (λ l. l) es i e lt ∙ ap (λ x. x ∷ rest) (sym c.e-item.is))) ∙ c.loop-e.invariant)
 
 pub returns-in-Err : goal.returns-in-Err
 returns-in-Err c =
@@ -38,10 +38,10 @@ returns-in-Err c =
     let rest = drop (i + 1) es in
     let lt : i < length es = omega arith in
     sym (pass_ends p g keys fr objects (entry_seen at e) (entries_seen at rest) (outcome_of c.in-Err.stop) (sym c.pass_entry.ensures ∙ ap (found_of (λ u. u)) c.in-Err.is))
-    ∙ (ap (λ l. tested (passed_objects p g keys fr objects (entries_seen at l))) (sym (split_at es i e lt c.e-item.is)) ∙ c.loop-e.invariant)
+    ∙ (ap (λ l. tested (passed_objects p g keys fr objects (entries_seen at l))) (sym (at_drop_more (λ l. l) es i e lt ∙ ap (λ x. x ∷ rest) (sym c.e-item.is))) ∙ c.loop-e.invariant)
 
 pub returns : goal.returns
 returns c =
     let at = c.args.callee.now in
-    ap (λ l. tested (passed_objects (program_in at) (func_in at) (keys_of c.args.keys.now) (frame_view c.args.frame.now) (objects_view c.args.objects.now) (entries_seen at l))) (sym (none_left c.args.entries.now c.loop-e.e-index (omega arith)))
+    ap (λ l. tested (passed_objects (program_in at) (func_in at) (keys_of c.args.keys.now) (frame_view c.args.frame.now) (objects_view c.args.objects.now) (entries_seen at l))) (sym (at_drop_all (λ l. l) c.args.entries.now c.loop-e.e-index (omega arith)))
     ∙ c.loop-e.invariant

@@ -3,7 +3,7 @@ use Rattle.std.specs.List.{list_any, list_all, enumerate_from}
 use Rattle.vlt_meaning.specs.World.{is_at}
 use Rattle.vlt_meaning.specs.Calls.{holds_only}
 use Rattle.vlt_trace_worlds.specs.View.{objects_view, frame_view}
-use Rattle.vlt_trace_calls.proofs.returns.holds_only.Given as goal
+use Rattle.vlt_trace_moves.proofs.returns.holds_only.Given as goal
 
 abbrev pub invariant-loop-n : goal.invariant-loop-n
 invariant-loop-n l =

@@ -3,7 +3,7 @@ use Rattle.std.specs.List.{list_any, list_all, enumerate_from}
 use Rattle.vlt_meaning.specs.World.{is_at}
 use Rattle.vlt_trace_worlds.specs.View.{objects_view}
 use Rattle.vlt_trace_steps.proofs.Loops.{split_at, none_left}
-use Rattle.vlt_trace_calls.proofs.returns.holds_only.Goals as goal
+use Rattle.vlt_trace_moves.proofs.returns.holds_only.Goals as goal
 
 pub loop-n-preserved : goal.loop-n-preserved
 loop-n-preserved c =

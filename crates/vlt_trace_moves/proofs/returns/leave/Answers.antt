@@ -10,8 +10,8 @@ use Rattle.vlt_trace_worlds.specs.Steps.{Finds, told_step}
 use Rattle.vlt_trace_steps.proofs.Leading.{err_is, same_hands, finds_ok}
 use Rattle.vlt_trace_calls.specs.Clauses.{entries_seen}
 use Rattle.vlt_trace_calls.proofs.Instances.{clause_seen}
-use Rattle.vlt_trace_calls.proofs.Leaving.{all_kept, same_finds, finds_hands, left_by, left_so, more_held, more_owned}
-use Rattle.vlt_trace_calls.proofs.returns.leave.Goals as goal
+use Rattle.vlt_trace_moves.proofs.Leaving.{all_kept, same_finds, finds_hands, left_by, left_so, more_held, more_owned}
+use Rattle.vlt_trace_moves.proofs.returns.leave.Goals as goal
 
 pub returns-in_err-kept : goal.returns-in_err-kept
 returns-in_err-kept c = λ heap depth a.

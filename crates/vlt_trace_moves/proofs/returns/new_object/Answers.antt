@@ -5,8 +5,8 @@ use Rattle.vlt_core.specs.View.{operand_of}
 use Rattle.vlt_trace_worlds.specs.View.{found_of, named_view, objects_view, frame_view, outcome_of}
 use Rattle.vlt_trace_worlds.specs.Running.{program_in, func_in}
 use Rattle.vlt_trace_calls.specs.Clauses.{entry_seen}
-use Rattle.vlt_trace_calls.proofs.Leaving.{new_nothing, new_one, in_later, not_later}
-use Rattle.vlt_trace_calls.proofs.returns.new_object.Goals as goal
+use Rattle.vlt_trace_moves.proofs.Leaving.{new_nothing, new_one, in_later, not_later}
+use Rattle.vlt_trace_moves.proofs.returns.new_object.Goals as goal
 
 pub returns-in-None : goal.returns-in-None
 returns-in-None c =

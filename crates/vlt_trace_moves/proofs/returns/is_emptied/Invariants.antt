@@ -5,7 +5,7 @@ use Rattle.vlt_core.specs.View.{func_of}
 use Rattle.vlt_meaning.specs.Calls.{is_emptied}
 use Rattle.vlt_trace_worlds.specs.View.{frame_view}
 use Rattle.vlt_trace_worlds.specs.Running.{func_in}
-use Rattle.vlt_trace_calls.proofs.returns.is_emptied.Given as goal
+use Rattle.vlt_trace_moves.proofs.returns.is_emptied.Given as goal
 
 abbrev pub invariant-loop-v : goal.invariant-loop-v
 invariant-loop-v l =

@@ -20,7 +20,7 @@ use Rattle.vlt_trace_worlds.specs.declared.stops.Halt.TheVariants.{Ends, Memory}
 use Rattle.vlt_trace_steps.specs.Hands.{Hands}
 use Rattle.vlt_trace_steps.proofs.Leading.{given, not_given, not_found, so, not_so}
 use Rattle.vlt_trace_steps.proofs.Loops.{push_nil}
-use Rattle.vlt_trace_calls.specs.Returned.{returned_var}
+use Rattle.vlt_trace_moves.specs.Returned.{returned_var}
 
 -- ---- the value
 

@@ -10,8 +10,8 @@ use Rattle.vlt_trace_worlds.specs.Running.{program_in, func_in}
 use Rattle.vlt_trace_worlds.specs.declared.stops.Halt.TheVariants.{Memory}
 use Rattle.vlt_trace_steps.proofs.Leading.{err_is}
 use Rattle.vlt_trace_calls.specs.Clauses.{entry_seen, entries_seen}
-use Rattle.vlt_trace_calls.proofs.Leaving.{one_kept, none_kept_of, kept_stops, none_left_of, same_finds, stop_finds, no_memory_finds}
-use Rattle.vlt_trace_calls.proofs.returns.+returned_objects.Goals as goal
+use Rattle.vlt_trace_moves.proofs.Leaving.{one_kept, none_kept_of, kept_stops, none_left_of, same_finds, stop_finds, no_memory_finds}
+use Rattle.vlt_trace_moves.proofs.returns.+returned_objects.Goals as goal
 
 pub returns-in-None : goal.returns-in-None
 returns-in-None t c =

@@ -6,7 +6,7 @@ use Rattle.vlt_meaning.specs.Run.{left_function}
 use Rattle.vlt_trace_worlds.specs.View.{value_view, frame_view, world_view}
 use Rattle.vlt_trace_worlds.specs.Running.{program_in, func_in, setup_in}
 use Rattle.vlt_trace_steps.proofs.Leading.{err_is, same_hands, hands_ok, hands_err_on}
-use Rattle.vlt_trace_calls.proofs.returns.give_back.Goals as goal
+use Rattle.vlt_trace_moves.proofs.returns.give_back.Goals as goal
 
 pub returns-in_err-a : goal.returns-in_err-a
 returns-in_err-a c = λ heap depth.

@@ -3,8 +3,8 @@ use Rattle.std.specs.Option.{option_map, option_copied}
 use Rattle.vlt_core.specs.View.{operand_of}
 use Rattle.vlt_trace_worlds.specs.View.{value_view, frame_view, world_view}
 use Rattle.vlt_trace_worlds.specs.Running.{program_in, func_in}
-use Rattle.vlt_trace_calls.proofs.Leaving.{nothing_returned, value_returned, value_halts}
-use Rattle.vlt_trace_calls.proofs.returns.returned_value.Goals as goal
+use Rattle.vlt_trace_moves.proofs.Leaving.{nothing_returned, value_returned, value_halts}
+use Rattle.vlt_trace_moves.proofs.returns.returned_value.Goals as goal
 
 pub returns-in-None : goal.returns-in-None
 returns-in-None c = λ go.

@@ -17,12 +17,12 @@ ghost use Rattle.vlt_trace_worlds.specs.Running.{program_in, func_in, setup_in};
 ghost use Rattle.vlt_trace_worlds.specs.Steps.{Finds};
 ghost use Rattle.vlt_trace_steps.specs.Hands.{Hands};
 ghost use Rattle.vlt_trace_calls.specs.Clauses.{entry_seen, entries_seen};
-ghost use Rattle.vlt_trace_calls.specs.Returned.{returned_var};
+ghost use Rattle.vlt_trace_moves.specs.Returned.{returned_var};
 
-use crate::clauses::{allows_after, is_after, is_new};
 use std::alloc::Global;
 use vlt_base::{Items, VarId};
 use vlt_core::{Entry, Expr, Func, Operand};
+use vlt_trace_calls::{allows_after, is_after, is_new};
 use vlt_trace_steps::operand;
 use vlt_trace_worlds::{
     Frame, Halt, Named, Object, OwnerTest, Reason, Running, Stop, Value, Wanted, World,

@@ -5,8 +5,8 @@ use Rattle.vlt_core.specs.Lookups.{is_owning_var}
 use Rattle.vlt_core.specs.View.{var_of}
 use Rattle.vlt_trace_worlds.specs.View.{frame_view}
 use Rattle.vlt_trace_worlds.specs.Running.{func_in}
-use Rattle.vlt_trace_calls.proofs.Checking.{range_next, range_none, filtered_all}
-use Rattle.vlt_trace_calls.proofs.returns.is_emptied.Goals as goal
+use Rattle.vlt_trace_moves.proofs.Checking.{range_next, range_none, filtered_all}
+use Rattle.vlt_trace_moves.proofs.returns.is_emptied.Goals as goal
 
 pub loop-v-init : goal.loop-v-init
 loop-v-init c =

@@ -7,8 +7,8 @@ use Rattle.vlt_meaning.specs.Objects.{in_states}
 use Rattle.vlt_trace_worlds.specs.View.{found_of, named_view, objects_view, frame_view}
 use Rattle.vlt_trace_worlds.specs.Running.{program_in, func_in}
 use Rattle.vlt_trace_calls.specs.Clauses.{entry_seen}
-use Rattle.vlt_trace_calls.proofs.Leaving.{object_new, object_old}
-use Rattle.vlt_trace_calls.proofs.returns.returned_object.Goals as goal
+use Rattle.vlt_trace_moves.proofs.Leaving.{object_new, object_old}
+use Rattle.vlt_trace_moves.proofs.returns.returned_object.Goals as goal
 
 pub returns-then-is_new : goal.returns-then-is_new
 returns-then-is_new c =
