@@ -109,9 +109,7 @@ pub fn close<'a>(s: &Setup, bound: &'a [Tok], end: u32, c: &mut Conf<'a>) -> Res
             c.place = end;
             if is_clean { Ok(()) } else { left_behind() }
         }
-        At::Jumps { .. } => {
-            if is_clean { Ok(()) } else { left_behind() }
-        }
+        At::Jumps { .. } => { if is_clean { Ok(()) } else { left_behind() } }
         At::Leaves(_) => Ok(()),
     }
 }

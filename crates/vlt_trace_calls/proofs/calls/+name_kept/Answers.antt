@@ -72,9 +72,9 @@ returns-clause-frame t c =
     let xs = option_to_list (option_map (binding n) (option_map (λ k. k.0) c.key_at.result)) in
     let ys = bindings keys (filter is_held_after (entries_seen at rest)) later in
     let same = ap (λ es. bindings keys (filter is_held_after (entries_seen at es)) c.args.kept.now) split
-        ∙ (ap (bindings keys (filter is_held_after (entries_seen at (e ∷ rest)))) taken
-        ∙ (name_one keys (entry_seen at e) (entries_seen at rest) n later (sym (c.is_after.ensures at) ∙ c.if-not-is_after.false)
-        ∙ ap (λ o. option_to_list (option_map (binding n) o) ++ ys) (sym c.key_at.ensures))) in
+    ∙ (ap (bindings keys (filter is_held_after (entries_seen at (e ∷ rest)))) taken
+    ∙ (name_one keys (entry_seen at e) (entries_seen at rest) n later (sym (c.is_after.ensures at) ∙ c.if-not-is_after.false)
+    ∙ ap (λ o. option_to_list (option_map (binding n) o) ++ ys) (sym c.key_at.ensures))) in
     on_ok c.name_kept-2.result
     (λ h. named_frame xs ys fr (frame_view c.name_one.new.frame) (frame_view c.name_kept-2.new.frame) c.in_ok-name_one.ensures.frame h ∙ ap (λ bs. with_names bs fr) (sym same)) c.name_kept-2.ensures.frame
 
@@ -93,9 +93,9 @@ returns-clause-world t c =
     let xs = option_to_list (option_map (binding n) (option_map (λ k. k.0) c.key_at.result)) in
     let ys = bindings keys (filter is_held_after (entries_seen at rest)) later in
     let same = ap (λ es. bindings keys (filter is_held_after (entries_seen at es)) c.args.kept.now) split
-        ∙ (ap (bindings keys (filter is_held_after (entries_seen at (e ∷ rest)))) taken
-        ∙ (name_one keys (entry_seen at e) (entries_seen at rest) n later (sym (c.is_after.ensures at) ∙ c.if-not-is_after.false)
-        ∙ ap (λ o. option_to_list (option_map (binding n) o) ++ ys) (sym c.key_at.ensures))) in
+    ∙ (ap (bindings keys (filter is_held_after (entries_seen at (e ∷ rest)))) taken
+    ∙ (name_one keys (entry_seen at e) (entries_seen at rest) n later (sym (c.is_after.ensures at) ∙ c.if-not-is_after.false)
+    ∙ ap (λ o. option_to_list (option_map (binding n) o) ++ ys) (sym c.key_at.ensures))) in
     on_ok c.name_kept-2.result
     (λ h. named_world fr.depth (frame_view c.name_one.new.frame).depth xs ys w (world_view c.name_one.new.world) (world_view c.name_kept-2.new.world)
     (ap (λ f. f.depth) c.in_ok-name_one.ensures.frame ∙ names_keep_depth xs fr) c.in_ok-name_one.ensures.world h
