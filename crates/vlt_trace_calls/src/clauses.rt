@@ -94,7 +94,6 @@ fn side_allows(at: &Running<'_>, e: &Entry, side: Option<StateSet>, state: u8) -
 }
 
 /// Whether the entry allows its object's state before the call, in the instance that runs.
-#[tactic(auto, using(crate::proofs::Instances::before_set_seen))]
 pub fn allows_before(at: &Running<'_>, e: &Entry, state: u8) -> bool
     ensures { result ≡ before_set (program_in at.now) (func_in at.now)
         (entry_seen at.now e.now) state }
@@ -103,7 +102,6 @@ pub fn allows_before(at: &Running<'_>, e: &Entry, state: u8) -> bool
 }
 
 /// Whether the entry allows its object's state after the call, in the instance that runs.
-#[tactic(auto, using(crate::proofs::Instances::after_set_seen))]
 pub fn allows_after(at: &Running<'_>, e: &Entry, state: u8) -> bool
     ensures { result ≡ after_set (program_in at.now) (func_in at.now)
         (entry_seen at.now e.now) state }
