@@ -12,7 +12,7 @@ RUN_OPTIONS = ("--answers", "--depth", "--fuel", "--heap", "--input")
 RUNS = ("run", "crun", "host")
 TEXTS_OF_C = ("crun", "verify")
 OF_VAULTC = ("check", "crun", "emit", "explain", "fmt", "host", "link", "load", "module", "run", "verify")
-OF_VAULTQ = ("faults", "paths")
+OF_VAULTQ = ("faults", "keys", "paths")
 
 
 @dataclass(frozen=True)

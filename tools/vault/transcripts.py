@@ -16,6 +16,8 @@ from .records import dataclass, field
 from .suite import Part, first_difference
 
 REPLY = re.compile(r"command (\d+): \$(.*)")
+CALLS = ("$", "?")
+"""What a line begins with that calls `vaultc`, or `vaultq`."""
 
 
 @dataclass(frozen=True)
@@ -35,7 +37,7 @@ class Item:
 
     def expected(self) -> List[str]:
         """What the command is to write, its status last."""
-        start = next(n for n, line in enumerate(self.lines) if line.startswith("$"))
+        start = next(n for n, line in enumerate(self.lines) if line.startswith(CALLS))
         return expand(self.lines[start + 1 :])
 
 
@@ -80,7 +82,7 @@ def read_items(lines: List[str], first: int) -> Iterator[Item]:
         if line.startswith("--- "):
             at = lines.index("---", at) + 1
             yield Item(first + start, tuple(lines[start:at]), line[4:], makes=line[4:])
-        elif line.startswith("$"):
+        elif line.startswith(CALLS):
             while not lines[at].startswith("= "):
                 at += 1
             at += 1
@@ -123,7 +125,7 @@ def outside_items(lines: List[str]) -> Iterator[int]:
             closing = None if line == "---" and closing == "---" or line.startswith(closing) and closing == "= " else closing
         elif line.startswith("--- "):
             closing = "---"
-        elif line.startswith("$"):
+        elif line.startswith(CALLS):
             closing = "= "
         else:
             yield number

@@ -1,13 +1,13 @@
 //! Transcripts: files and commands come in, with what each command writes and its status; where it is something else, that goes out.
 //! Read `stdin` first. The last line tells how many commands were run.
-//! Used by: nothing. `vaultc_core::vaultc` has the clauses.
+//! Used by: nothing. `vaultc_core::vaultc` and `vaultq_core::vaultq` have the clauses.
 #![tactic(auto)]
 
 mod outside;
 mod pieces;
 mod series;
 
-use outside::{File, Outside, Reply, SOUND, find_bytes, status_line};
+use outside::{File, Outside, Program, Reply, SOUND, find_bytes, status_line};
 use pieces::{push_changed, push_piece};
 use std::alloc::Global;
 use std::io::{self, BufRead, BufReader, ErrorKind, Write};
@@ -66,6 +66,9 @@ impl Transcript {
         let (part, title) = if let Some(name) = line.strip_prefix("--- ") {
             (Part::File, name)
         } else if let Some(words) = line.strip_prefix("$") {
+            (Part::Reply, words)
+        } else if let Some(words) = line.strip_prefix("?") {
+            self.outside.program = Program::Vaultq;
             (Part::Reply, words)
         } else if let Some(fails) = line.strip_prefix("! ") {
             return self.outside.set(fails);

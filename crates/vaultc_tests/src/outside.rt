@@ -4,7 +4,25 @@ use crate::series::{Replies, Series};
 use std::alloc::Global;
 use std::io::{self, ErrorKind};
 use vaultc_core::vaultc;
+use vaultq_core::vaultq;
 use vlt_io::{MemSink, MemStore};
+
+/// The program whose public call a command is.
+#[derive(Clone, Copy)]
+pub enum Program {
+    Vaultc,
+    Vaultq,
+}
+
+impl Program {
+    /// Calls it, and gives its status.
+    fn call(self, alloc: Global, words: &[String], store: &mut MemStore, sink: &mut MemSink) -> u8 {
+        match self {
+            Program::Vaultc => vaultc(alloc, words, store, sink),
+            Program::Vaultq => vaultq(alloc, words, store, sink),
+        }
+    }
+}
 
 /// A file by its name.
 #[derive(Drop)]
@@ -45,9 +63,11 @@ impl Reply {
     }
 }
 
-/// What fails: a read by its number, from 1; a write by its number, and the bytes of its piece that go out; and how many bytes the sink takes.
+/// What the next command meets, and the program that it calls. What fails: a read by its number, from 1; a write by its number, and the bytes
+/// of its piece that go out; and how many bytes the sink takes.
 #[derive(Clone, Copy)]
 pub struct Outside {
+    pub program: Program,
     failing_read: u64,
     failing_write: (u64, usize),
     room: usize,
@@ -57,6 +77,7 @@ pub struct Outside {
 
 /// An outside where nothing fails: no call has the number 0.
 pub const SOUND: Outside = Outside {
+    program: Program::Vaultc,
     failing_read: 0,
     failing_write: (0, 0),
     room: 131_072,
@@ -109,7 +130,7 @@ impl Outside {
         let mut sink = MemSink::with_parts(alloc, self.room, &failing).map_err(
             |_| ErrorKind::OutOfMemory,
         )?;
-        let status = vaultc(alloc, words, &mut store, &mut sink);
+        let status = self.program.call(alloc, words, &mut store, &mut sink);
         Ok(Reply {
             written: Vec::from_slice(alloc, sink.bytes())?,
             status,

@@ -1,4 +1,4 @@
--- All faults of a text's program can be told, with their paths.
+-- All faults and points of a text's program can be told, faults with their paths.
 use Rattle.std.proofs.Common.{◌≡◌, ◌≤◌, ◌^◌, ℕ, List, length, false, Option, Some, slice_get, refl, subst, arith}
 use Rattle.vlt_syntax.specs.Tree.{Tree}
 use Rattle.vlt_core.specs.Core.{Func, Program}
@@ -9,7 +9,7 @@ use Rattle.vlt_fit_laws.specs.Fit.{IsTextTree, ProgramsAreFit}
 use Rattle.vlt_check.specs.Checks.{fault_of}
 use Rattle.vlt_verdict.proofs.Single.{fit_program}
 use Rattle.vlt_verdict.specs.Seen.{IsSeenAs}
-use Rattle.vlt_verdict.specs.Verdicts.{faulty, IsVerdictOf}
+use Rattle.vlt_verdict.specs.Verdicts.{faulty, accepted, IsVerdictOf}
 use Rattle.vlt_verdict.specs.declared.Verdict.{Verdict}
 use Rattle.vlt_verdict.specs.declared.Verdict.TheVariants.{Broken, Exceeded, Faulty, Accepted}
 use Rattle.vlt_all_faults_lines.specs.Unfit.{HasUntoldFunc, HasUnshown, many_functions, untold, unfit}
@@ -46,7 +46,14 @@ module _ (laws : Laws) where
   pub listable : (bytes : List ℕ) (t : Tree) (v : Verdict) → IsTextOf t bytes → IsTextTree t → IsJudged t v → HasListable v
   listable bytes t (Broken rule at) reads tree judged = tt
   listable bytes t (Exceeded n) reads tree judged = tt
-  listable bytes t (Accepted p) reads tree judged = tt
+  listable bytes t (Accepted p) reads tree (s, is, same) =
+      let q = core.program_of p in
+      let of_accepted : IsVerdictOf t (accepted q) = subst (IsVerdictOf t) same is in
+      let fit = fit_program laws.fit t q tree of_accepted.0 in
+      record {
+        well_formed = fit.well_formed;
+        shown = all_shown q (program_of_text bytes t q reads tree of_accepted.0) fit.few.functions;
+      }
   listable bytes t (Faulty p x) reads tree (s, is, (f, there, same)) =
       let q = core.program_of p in
       let of_faulty : IsVerdictOf t (faulty q f (fault_of x)) = subst (IsVerdictOf t) same is in

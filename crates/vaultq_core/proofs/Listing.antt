@@ -1,5 +1,5 @@
--- What stands after statuses 0 and 8 of `faults`.
-use Rattle.std.proofs.Common.{◌≡◌, inl, inr, ℕ, ◌≤◌, List, Option, Some, refl, sym, ap, ◌∙◌, subst, arith}
+-- What stands after statuses 0 and 8 of `faults`, and 0 of `keys`.
+use Rattle.std.proofs.Common.{◌≡◌, inl, inr, ℕ, ◌≤◌, List, Option, Some, Ok, refl, sym, ap, ◌∙◌, subst, arith}
 use Rattle.vlt_base.specs.Limits.{limit_of}
 use Rattle.vlt_base.specs.declared.limits.TheConstants.{SOURCE_BYTES}
 use Rattle.vlt_core.specs.Core.{Program}
@@ -8,6 +8,7 @@ use Rattle.vlt_io.specs.declared.sink.Sink as sink
 use Rattle.vlt_io.specs.declared.store.Store.{Ghosts}
 use Rattle.vlt_lexer.specs.declared.LexError.TheVariants as lex
 use Rattle.vlt_elaboration.specs.Elaboration.{broken, exceeded}
+use Rattle.vlt_elaboration.specs.Programs.{program_told}
 use Rattle.vlt_syntax.specs.Refusals.{unexpected_at, over_limit, ended}
 use Rattle.vlt_syntax.specs.Tree.{Tree}
 use Rattle.vlt_verdict.specs.Verdicts.{Verdict, refused, faulty, accepted, IsVerdictOf}
@@ -19,15 +20,17 @@ use Rattle.vaultc_runs.specs.Finishes.{Finishes}
 use Rattle.vaultc_runs.specs.Lines.{Reply, reply}
 use Rattle.vaultc_runs.specs.Texts.{IsTooLong, IsTextOf, Refusal, unlexed, unparsed, refusal_reply}
 use Rattle.vaultc_replies.proofs.Promises.{not_zero, status_of, no_refusal}
-use Rattle.vaultq_words.specs.Questions.{Question, faults}
-use Rattle.vaultq_replies.specs.Replies.{IsAnswerToFaults, IsAnswerToText, MayAnswer}
-use Rattle.vaultq_core.specs.Listed.{IsFaultless, IsListed}
+use Rattle.vaultc_replies.specs.Variables.{variable_in}
+use Rattle.vaultc_replies.specs.Verdicts.{check_reply}
+use Rattle.vaultq_words.specs.Questions.{Question, faults, keys}
+use Rattle.vaultq_replies.specs.Replies.{ArePointsBefore, IsAnswerToFaults, IsAnswerToKeys, IsAnswerToText, MayAnswer}
+use Rattle.vaultq_core.specs.Listed.{ArePointsTold, IsFaultless, IsListed}
 
 -- what a question's answer to its file promises, where it promises this of the bytes
 abbrev Promises : (P : Option Files → (name bytes : List ℕ) → (old new : Option (List ℕ)) → Type 0) → {S : Type 0} (g : Ghosts S) (early late : S) → (file : List ℕ) → (old new : Option (List ℕ)) → Type 0
 Promises P g early late file old new = (bytes : List ℕ) × IsOneRead g early late (text_in file) bytes × P (g.files early) file bytes old new
 
--- ---- status 0
+-- ---- status 0 of `faults`
 
 faultless_of : (store : Option Files) (name bytes text : List ℕ) (t : Tree) (v : Verdict) (old new : Option (List ℕ)) → IsRead store name (limit_of SOURCE_BYTES) bytes → (IsTooLong bytes → ⊥)
     → IsTextOf t bytes → IsVerdictOf t v → IsAnswerToFaults bytes v (reply DONE text) → Grew old new text → IsFaultless store name bytes old new
@@ -63,7 +66,50 @@ faultless g k early late before after q status f file asks zero =
     let at_zero : MayAnswer g early late q (reply DONE x.0) = subst (λ n. MayAnswer g early late q (reply n x.0)) zero x.1 in
     faultless_may g early late file x.0 (k.written before) (k.written after) (subst (λ o. MayAnswer g early late o (reply DONE x.0)) asks at_zero) x.2
 
--- ---- status 8
+-- ---- status 0 of `keys`
+
+points_told : (store : Option Files) (name bytes text : List ℕ) (t : Tree) (v : Verdict) (p : Program) (old new : Option (List ℕ)) → IsRead store name (limit_of SOURCE_BYTES) bytes → (IsTooLong bytes → ⊥)
+    → IsTextOf t bytes → IsVerdictOf t v → program_told t ≡ Ok p → ArePointsBefore bytes t p (check_reply bytes v).text (reply DONE text) → Grew old new text → ArePointsTold store name bytes old new
+points_told store name bytes text t v p old new read short reads is elaborates (lines, points, e) grew = record {
+  program = p;
+  reads = record { short = short; tree = t; reads = reads; elaborates = elaborates };
+  lines = lines;
+  points = points;
+  verdict = v;
+  judged = is;
+  there = λ told tells. read_there store told (text_in name) bytes read short tells;
+  written = subst (λ x. Grew old new x) (ap (λ r. r.text) e) grew;
+}
+
+points_of : (store : Option Files) (name bytes text : List ℕ) (t : Tree) (v : Verdict) (old new : Option (List ℕ)) → IsRead store name (limit_of SOURCE_BYTES) bytes → (IsTooLong bytes → ⊥)
+    → IsTextOf t bytes → IsVerdictOf t v → IsAnswerToKeys bytes t v (reply DONE text) → Grew old new text → ArePointsTold store name bytes old new
+points_of store name bytes text t (refused (broken rule at)) old new read short reads is e grew = absurd (not_zero 6 (status_of text _ e))
+points_of store name bytes text t (refused (exceeded n)) old new read short reads is e grew = absurd (not_zero 4 (status_of text _ e))
+points_of store name bytes text t (faulty p f x) old new read short reads is points grew = points_told store name bytes text t (faulty p f x) p old new read short reads is is.0 points grew
+points_of store name bytes text t (accepted p) old new read short reads is points grew = points_told store name bytes text t (accepted p) p old new read short reads is is.0 points grew
+
+points_in : (store : Option Files) (file bytes text : List ℕ) (old new : Option (List ℕ)) → IsRead store file (limit_of SOURCE_BYTES) bytes → (IsTooLong bytes → ⊥)
+    → IsAnswerToText (keys file) bytes (reply DONE text) → Grew old new text → ArePointsTold store file bytes old new
+points_in store file bytes text old new read short (inl (e, is, same)) grew = absurd (no_refusal bytes text e same)
+points_in store file bytes text old new read short (inr (t, reads, (v, is, same))) grew = points_of store file bytes text t v old new read short reads is same grew
+
+points_may : {S : Type 0} (g : Ghosts S) (early late : S) → (file text : List ℕ) (old new : Option (List ℕ)) → MayAnswer g early late (Some (keys file)) (reply DONE text) → Grew old new text
+    → Promises ArePointsTold g early late file old new
+points_may g early late file text old new (unread name, may, same) grew = absurd (not_zero 1 (status_of text _ same))
+points_may g early late file text old new (too_long name n, may, same) grew = absurd (not_zero 4 (status_of text _ same))
+points_may g early late file text old new (had contents, may, is) grew =
+    let one = one_read g early late (text_in file) contents may in
+    let at_first : IsAnswerToText (keys file) one.0 (reply DONE text) = subst (λ cs. IsAnswerToText (keys file) (bytes_at cs 0) (reply DONE text)) one.1 is in
+    (one.0, one.2, points_in (g.files early) file one.0 text old new one.2.told one.3 at_first grew)
+
+pub points : {S K : Type 0} (g : Ghosts S) (k : sink.Ghosts K) (early late : S) (before after : K) (q : Option Question) (status : ℕ) → Finishes k (MayAnswer g early late q) before after status
+    → (file : List ℕ) → q ≡ Some (keys file) → status ≡ DONE → Promises ArePointsTold g early late file (k.written before) (k.written after)
+points g k early late before after q status f file asks zero =
+    let x = f.whole (λ three. omega (arith, zero, three)) (λ four. omega (arith, zero, four)) in
+    let at_zero : MayAnswer g early late q (reply DONE x.0) = subst (λ n. MayAnswer g early late q (reply n x.0)) zero x.1 in
+    points_may g early late file x.0 (k.written before) (k.written after) (subst (λ o. MayAnswer g early late o (reply DONE x.0)) asks at_zero) x.2
+
+-- ---- status 8 of `faults`
 
 -- no text is refused with a status of programs
 low : (bytes : List ℕ) (e : Refusal) → (refusal_reply bytes e).status ≤ 6

@@ -1,4 +1,4 @@
-//! From the tree of a text to its verdict, of which all faults can be told.
+//! From the tree of a text to its verdict, of which all faults and points can be told.
 
 ghost use Rattle.std.specs.Prelude.{List, ℕ, IfOk};
 ghost use Rattle.vlt_syntax.specs.View.{tree_of};

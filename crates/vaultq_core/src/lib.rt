@@ -14,7 +14,7 @@ ghost use Rattle.vaultq_words.specs.Questions as questions;
 ghost use Rattle.vaultq_words.specs.Questions.{Question, question_of};
 ghost use Rattle.vaultq_replies.specs.Laws.{HasOneAnswer};
 ghost use Rattle.vaultq_replies.specs.Replies.{IsAnswerTo, IsUnread, MayAnswer, usage};
-ghost use Rattle.vaultq_core.specs.Listed.{IsFaultless, IsListed};
+ghost use Rattle.vaultq_core.specs.Listed.{ArePointsTold, IsFaultless, IsListed};
 
 mod answers;
 mod judged;
@@ -24,6 +24,7 @@ use std::alloc::Global;
 use vlt_all_faults_lines::{a_program_has_one_faults_text, faults_begin_with_the_first};
 use vlt_fit_laws::texts_have_text_trees;
 use vlt_io::{Sink, Store};
+use vlt_points_laws::a_token_has_one_list;
 use vlt_verdict::a_tree_has_one_verdict;
 
 /// Answers the question that the words are, and gives its status.
@@ -34,6 +35,7 @@ use vlt_verdict::a_tree_has_one_verdict;
 /// - `told`: of a store that tells its files, they are an answer to its files.
 /// - `faultless`: `faults` gives 0 only for bytes of a program that follows the rules.
 /// - `listed`: `faults` gives 8 only for bytes of a program with a first fault; what it writes tells all faults, that one first.
+/// - `points`: `keys` gives 0 only for bytes of a program; what it writes tells what is found at its points, and what `check` says.
 /// - `no_fault`: with no fault, an answer to the store's files is written whole, unless memory runs out.
 /// - `complete`: with no fault, the status is that of the answer, unless memory runs out.
 /// - `usage`, `no_command`: 1 is for words that are no question; they have the usage line, or a part of it where the sink failed.
@@ -56,6 +58,11 @@ pub fn vaultq<S: Store, K: Sink>(alloc: Global, words: &[String], store: &mut S,
         result ≡ NOT_ACCEPTED →
         (bytes : List ℕ) × IsOneRead S.Store store.old store.new (text_in file) bytes
         × IsListed (S.files store.old) file bytes (K.written out.old) (K.written out.new) }
+    ensures points { (file : List ℕ) →
+        question_of (map string_bytes words.now) ≡ Some (questions.keys file) →
+        result ≡ DONE →
+        (bytes : List ℕ) × IsOneRead S.Store store.old store.new (text_in file) bytes
+        × ArePointsTold (S.files store.old) file bytes (K.written out.old) (K.written out.new) }
     ensures no_fault { (files : Files) → S.files store.old ≡ Some files →
         WithoutFault S.Store K.Sink store.old store.new out.old out.new
         (WroteReply K.Sink (IsAnswerTo (map string_bytes words.now) files) out.old out.new result
@@ -79,6 +86,7 @@ pub fn vaultq<S: Store, K: Sink>(alloc: Global, words: &[String], store: &mut S,
     a_tree_has_one_verdict();
     texts_have_text_trees();
     a_program_has_one_faults_text();
+    a_token_has_one_list();
     faults_begin_with_the_first();
     answers::answer(alloc, words, store, out)
 }
@@ -90,4 +98,5 @@ pub fn a_question_has_one_answer()
     a_tree_has_one_verdict();
     texts_have_text_trees();
     a_program_has_one_faults_text();
+    a_token_has_one_list();
 }

@@ -6,7 +6,7 @@ use Rattle.vlt_verdict.specs.Verdicts as verdict
 use Rattle.vlt_verdict.specs.Verdicts.{Verdict}
 use Rattle.vaultc_runs.specs.Lines.{Reply}
 use Rattle.vaultc_runs.proofs.Own.{IsOwn, own_zero, own, own_as, own_refusal}
-use Rattle.vaultq_words.specs.Questions.{Question, faults, paths}
+use Rattle.vaultq_words.specs.Questions.{Question, faults, paths, keys}
 use Rattle.vaultq_replies.specs.Replies.{IsAnswerToVerdict, IsAnswerToText}
 
 own_answer_to : (q : Question) (text : List ℕ) (t : Tree) (v : Verdict) (r : Reply) → IsAnswerToVerdict q text t v r → IsOwn r.status
@@ -18,6 +18,10 @@ own_answer_to (paths file) text t (verdict.refused (broken rule at)) r is = own_
 own_answer_to (paths file) text t (verdict.refused (exceeded n)) r is = own_as r _ is (own 5 (omega arith))
 own_answer_to (paths file) text t (verdict.faulty p f x) r (lines, shown, is) = own_as r _ is (own 8 (omega arith))
 own_answer_to (paths file) text t (verdict.accepted p) r is = own_as r _ is own_zero
+own_answer_to (keys file) text t (verdict.refused (broken rule at)) r is = own_as r _ is (own 7 (omega arith))
+own_answer_to (keys file) text t (verdict.refused (exceeded n)) r is = own_as r _ is (own 5 (omega arith))
+own_answer_to (keys file) text t (verdict.faulty p f x) r (lines, points, is) = own_as r _ is own_zero
+own_answer_to (keys file) text t (verdict.accepted p) r (lines, points, is) = own_as r _ is own_zero
 
 -- neither that of words that are no question nor that of a file that wasn't read
 pub own_answer : (q : Question) (bytes : List ℕ) (r : Reply) → IsAnswerToText q bytes r → IsOwn r.status

@@ -21,7 +21,7 @@ use Rattle.vaultc_replies.proofs.Said.{refused_text}
 use Rattle.vaultq_words.specs.Questions.{Question, sources_of}
 use Rattle.vaultq_words.specs.View.{seen_asked}
 use Rattle.vaultq_words.specs.declared.Asked.{Asked}
-use Rattle.vaultq_words.specs.declared.Asked.TheVariants.{Faults, Paths}
+use Rattle.vaultq_words.specs.declared.Asked.TheVariants.{Faults, Paths, Keys}
 use Rattle.vaultq_replies.specs.Replies.{IsAnswerToVerdict, IsAnswerToTree, IsAnswerToText, MayAnswer}
 
 -- ---- bytes
@@ -45,6 +45,7 @@ said_of_tree a bytes t v (Err e) reads judged said = tt
 one_source : (a : Asked) (file : List ℕ) → sources_of (seen_asked a file) ≡ Some (text_in file) ∷ []
 one_source Faults file = refl
 one_source Paths file = refl
+one_source Keys file = refl
 
 pub text_answer : {S : Type 0} (g : Ghosts S) (old new : S) (a : Asked) (file bytes slice : List ℕ) (r : lines.Reply) → slice ≡ bytes → MayRead g old new (Some (text_in file) ∷ []) (had (bytes ∷ []))
     → ((name : List ℕ) → IsAnswerToText (seen_asked a name) slice r) → MayAnswer g old new (Some (seen_asked a file)) r

@@ -1,4 +1,3 @@
 pub mod Replies
 pub mod Laws
 pub mod Listable
-pub mod Names

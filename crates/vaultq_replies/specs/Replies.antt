@@ -1,18 +1,20 @@
 -- What each question is answered, in the order in which questions are refused: the words, the file with its size, the text, the program.
-use Rattle.std.specs.Prelude.{◌≡◌, ℕ, false, List, Option, Some, None, codes}
+use Rattle.std.specs.Prelude.{◌≡◌, ℕ, false, List, ◌++◌, Option, Some, None, codes}
 use Rattle.vlt_io.specs.Outside.{Files, MayFail}
 use Rattle.vlt_io.specs.declared.store.Store.{Ghosts}
 use Rattle.vlt_syntax.specs.Tree.{Tree}
-use Rattle.vlt_verdict.specs.Verdicts.{Verdict, faulty, IsVerdictOf}
+use Rattle.vlt_core.specs.Core.{Program}
+use Rattle.vlt_verdict.specs.Verdicts.{Verdict, faulty, accepted, IsVerdictOf}
 use Rattle.vlt_all_faults_lines.specs.Lines.{IsFaultsText, IsPathsText}
+use Rattle.vlt_points.specs.Lines.{AreKeysLines}
 use Rattle.vaultc_words.specs.Sources.{Read, unread, read_in, MayRead, bytes_at}
-use Rattle.vaultc_runs.specs.declared.status.TheConstants.{NO_COMMAND, NOT_ACCEPTED}
+use Rattle.vaultc_runs.specs.declared.status.TheConstants.{DONE, NO_COMMAND, NOT_ACCEPTED}
 use Rattle.vaultc_runs.specs.Lines.{Reply, reply, unread_reply}
 use Rattle.vaultc_runs.specs.OverFiles.{IsReplyOver}
 use Rattle.vaultc_replies.specs.Replies.{IsReplyByTree}
 use Rattle.vaultc_replies.specs.Variables.{variable_in}
 use Rattle.vaultc_replies.specs.Verdicts.{check_reply}
-use Rattle.vaultq_words.specs.Questions.{Question, faults, paths, question_of, sources_of}
+use Rattle.vaultq_words.specs.Questions.{Question, faults, paths, keys, question_of, sources_of}
 
 -- ---- a tree, with the text that it stands in
 
@@ -27,9 +29,20 @@ IsAnswerToPaths text t (faulty p f x) r =
     (lines : List ℕ) × IsPathsText text p (variable_in t) lines × (r ≡ reply NOT_ACCEPTED lines)
 IsAnswerToPaths text t v r = r ≡ check_reply text v
 
+-- what is held at each point of a program, and after it this line
+abbrev pub ArePointsBefore : (text : List ℕ) → Tree → Program → (last : List ℕ) → Reply → Type 0
+ArePointsBefore text t p last r = (lines : List ℕ) × AreKeysLines text p (variable_in t) lines × (r ≡ reply DONE (lines ++ last))
+
+-- `keys` says of a program that breaks no rule on names and types what is held at each point, and then what `check` says
+abbrev pub IsAnswerToKeys : (text : List ℕ) → Tree → Verdict → Reply → Type 0
+IsAnswerToKeys text t (faulty p f x) r = ArePointsBefore text t p (check_reply text (faulty p f x)).text r
+IsAnswerToKeys text t (accepted p) r = ArePointsBefore text t p (check_reply text (accepted p)).text r
+IsAnswerToKeys text t v r = r ≡ check_reply text v
+
 abbrev pub IsAnswerToVerdict : Question → (text : List ℕ) → Tree → Verdict → Reply → Type 0
 IsAnswerToVerdict (faults file) text t v r = IsAnswerToFaults text v r
 IsAnswerToVerdict (paths file) text t v r = IsAnswerToPaths text t v r
+IsAnswerToVerdict (keys file) text t v r = IsAnswerToKeys text t v r
 
 abbrev pub IsAnswerToTree : Question → (text : List ℕ) → Tree → Reply → Type 0
 IsAnswerToTree q text t r = (v : Verdict) × IsVerdictOf t v × IsAnswerToVerdict q text t v r
@@ -45,7 +58,7 @@ IsAnswerToRead q x r = IsReplyOver false (λ contents. IsAnswerToText q (bytes_a
 -- ---- words
 
 abbrev pub usage : List ℕ
-usage = codes "usage: vaultq faults F | paths F\n"
+usage = codes "usage: vaultq faults F | paths F | keys F\n"
 
 -- the words are no question
 abbrev pub usage_reply : Reply

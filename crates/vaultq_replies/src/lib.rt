@@ -3,6 +3,7 @@
 //! Used by: `vaultq_core::vaultq`, whose clauses say of every question that it is answered so.
 #![tactic(auto)]
 
+mod keys;
 mod names;
 mod paths;
 mod replies;

@@ -10,11 +10,14 @@ pub data Question : Type 0 where
   faults : (file : List ℕ) → Question
   -- these with the paths that show them
   paths : (file : List ℕ) → Question
+  -- what is held at each point
+  keys : (file : List ℕ) → Question
 
 abbrev pub question_named : (name file : List ℕ) → Option Question
 question_named name file =
     if bytes_eq name (codes "faults") then Some (faults file)
     else if bytes_eq name (codes "paths") then Some (paths file)
+    else if bytes_eq name (codes "keys") then Some (keys file)
     else None
 
 -- the question that the words are, if they are one: its name and a file
@@ -25,6 +28,7 @@ question_of _ = None
 abbrev pub file_of : Question → List ℕ
 file_of (faults file) = file
 file_of (paths file) = file
+file_of (keys file) = file
 
 -- the one file that it reads
 abbrev pub sources_of : Question → List (Option Source)

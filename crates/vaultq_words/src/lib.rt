@@ -13,6 +13,7 @@ ghost use Rattle.vaultq_words.specs.View.{seen_asked, seen_question};
 pub enum Asked {
     Faults,
     Paths,
+    Keys,
 }
 
 /// What is asked, and the file of the program's text.
@@ -37,6 +38,7 @@ fn read_asked(name: &str) -> Option<Asked>
     match name {
         "faults" => Some(Asked::Faults),
         "paths" => Some(Asked::Paths),
+        "keys" => Some(Asked::Keys),
         _ => None,
     }
 }

@@ -46,6 +46,12 @@ class Spoken:
         return self.answer
 
 
+class Questions(unittest.TestCase):
+    def test_a_question_is_a_command(self) -> None:
+        (section,) = read_sections("# One\n--- a.v\n? no question\n---\n! read 1\n? faults a.v\nread a.v\n= 2\n")
+        self.assertEqual([(it.title, it.expected()) for it in section.commands()], [(" faults a.v", ["read a.v", "= 2"])])
+
+
 class Sections(unittest.TestCase):
     def setUp(self) -> None:
         self.first, self.second = read_sections(TEXT)

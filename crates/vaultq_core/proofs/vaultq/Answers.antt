@@ -3,7 +3,7 @@ use Rattle.std.specs.Prelude.{string_bytes}
 use Rattle.vaultq_words.specs.Questions.{question_of}
 use Rattle.vaultq_replies.proofs.Single.{Laws}
 use Rattle.vaultq_replies.proofs.Told.{told, memory, complete, no_fault, usage, unread_told}
-use Rattle.vaultq_core.proofs.Listing.{faultless, listed}
+use Rattle.vaultq_core.proofs.Listing.{faultless, listed, points}
 use Rattle.vaultq_core.proofs.vaultq.Goals as goal
 
 pub returns-clause-told : goal.returns-clause-told
@@ -16,7 +16,7 @@ returns-clause-no_fault g c = λ files.
 
 pub returns-clause-complete : goal.returns-clause-complete
 returns-clause-complete g c = λ files r.
-    let laws : Laws = record { one = c.a_tree_has_one_verdict.ensures; trees = c.texts_have_text_trees.ensures; listed = c.a_program_has_one_faults_text.ensures } in
+    let laws : Laws = record { one = c.a_tree_has_one_verdict.ensures; trees = c.texts_have_text_trees.ensures; listed = c.a_program_has_one_faults_text.ensures; found = c.a_token_has_one_list.ensures.one } in
     complete laws g.S.Store g.K.Sink c.args.store.now c.answer.new.store c.args.out.now c.answer.new.out (question_of (map string_bytes c.args.words.now)) c.answer.result files r c.answer.ensures.finishes
 
 pub returns-clause-usage : goal.returns-clause-usage
@@ -38,3 +38,7 @@ returns-clause-faultless g c =
 pub returns-clause-listed : goal.returns-clause-listed
 returns-clause-listed g c =
     listed c.faults_begin_with_the_first.ensures g.S.Store g.K.Sink c.args.store.now c.answer.new.store c.args.out.now c.answer.new.out (question_of (map string_bytes c.args.words.now)) c.answer.result c.answer.ensures.finishes
+
+pub returns-clause-points : goal.returns-clause-points
+returns-clause-points g c =
+    points g.S.Store g.K.Sink c.args.store.now c.answer.new.store c.args.out.now c.answer.new.out (question_of (map string_bytes c.args.words.now)) c.answer.result c.answer.ensures.finishes

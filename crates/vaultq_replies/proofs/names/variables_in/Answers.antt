@@ -1,4 +1,4 @@
-use Rattle.std.proofs.Common.{◌<◌, arith}
+use Rattle.std.proofs.Common.{arith}
 use Rattle.vlt_syntax.specs.View.{tree_of}
 use Rattle.vaultq_replies.proofs.Named.{names_first, names_more}
 use Rattle.vaultq_replies.proofs.names.variables_in.Goals as goal
