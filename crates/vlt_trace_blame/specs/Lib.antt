@@ -1,0 +1,4 @@
+pub mod Blame
+pub mod Line
+pub mod Passing
+pub mod Samples
