@@ -1,0 +1,2 @@
+pub mod UnderKeys
+pub mod Passed

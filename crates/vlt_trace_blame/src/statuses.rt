@@ -1,6 +1,8 @@
 //! What a frame has under a key, and what a row makes of a status.
 
-ghost use Rattle.std.specs.Prelude.{◌≡◌, ◌↔◌, ◌≤◌, IsTrue, None, IfSome};
+ghost use Rattle.std.specs.Prelude.{◌≡◌, ◌==◌, ◌↔◌, ◌≤◌, IsTrue, if◌then◌else◌, None, IfSome};
+ghost use Rattle.vlt_base.specs.States.{has_state};
+ghost use Rattle.vlt_core.specs.Core.{a_key};
 ghost use Rattle.vlt_core.specs.Maps as maps;
 ghost use Rattle.vlt_core.specs.HeldView.{status_of, wanted_of, after_of};
 ghost use Rattle.vlt_core.specs.View.{tok_of};
@@ -54,8 +56,8 @@ fn one_state(state: u8) -> Option<StateSet>
 
 /// An object, as the frame at a depth has it under a key; none where the number of its state is too high.
 fn object_status(depth: u32, k: KeyId, o: &Object) -> Option<Status>
-    ensures some { IfSome result (λ s.
-        status_of s ≡ s.status_of depth k.0 (object_view o.now)) }
+    ensures some { IfSome result (λ x.
+        status_of x ≡ s.status_of depth k.0 (object_view o.now)) }
     ensures none { result ≡ None → 32 ≤ o.now.state }
 {
     if o.owner.is_held_under(depth, k) {
@@ -69,16 +71,29 @@ fn object_status(depth: u32, k: KeyId, o: &Object) -> Option<Status>
     }
 }
 
+/// Whether there is nothing, so that something else counts.
+fn is_absent(status: Status) -> bool
+    ensures { (other : maps.Status) → s.or_else (status_of status) other
+        ≡ (if result then other else status_of status) }
+{
+    match status {
+        Status::Absent => true,
+        Status::Held(_) => false,
+        Status::Lent(_) => false,
+        Status::Full => false,
+    }
+}
+
 /// The first of these objects that the frame has under the key.
 fn status_among(depth: u32, k: KeyId, objects: &[Object]) -> Option<Status>
-    ensures some { IfSome result (λ s.
-        status_of s ≡ s.status_among depth k.0 (objects_view objects.now)) }
+    ensures some { IfSome result (λ x.
+        status_of x ≡ s.status_among depth k.0 (objects_view objects.now)) }
     ensures none { result ≡ None → HasHighState (objects_view objects.now) }
 {
     for o in objects {
-        match object_status(depth, k, o) {
-            Some(Status::Absent) => {}
-            found => return found,
+        let status = object_status(depth, k, o)?;
+        if !is_absent(status) {
+            return Some(status);
         }
     }
     Some(Status::Absent)
@@ -86,7 +101,7 @@ fn status_among(depth: u32, k: KeyId, objects: &[Object]) -> Option<Status>
 
 /// The object that the key names, as the frame has it under the key.
 fn named_status(frame: &Frame, k: KeyId, objects: &[Object]) -> Option<Status>
-    ensures some { IfSome result (λ s. status_of s ≡ s.status_among frame.now.depth k.0
+    ensures some { IfSome result (λ x. status_of x ≡ s.status_among frame.now.depth k.0
         (s.object_named (frame_view frame.now) (objects_view objects.now) k.0)) }
     ensures none { result ≡ None → HasHighState (objects_view objects.now) }
 {
@@ -101,19 +116,21 @@ fn named_status(frame: &Frame, k: KeyId, objects: &[Object]) -> Option<Status>
 
 /// What the frame has under a key.
 fn key_status(frame: &Frame, k: KeyId, objects: &[Object]) -> Option<Status>
-    ensures some { IfSome result (λ s. status_of s
-        ≡ s.held_map (frame_view frame.now) (objects_view objects.now) (tok_of (Tok.Key k))) }
+    ensures some { IfSome result (λ x. status_of x
+        ≡ s.held_map (frame_view frame.now) (objects_view objects.now) (a_key k.0)) }
     ensures none { result ≡ None → HasHighState (objects_view objects.now) }
 {
-    match named_status(frame, k, objects) {
-        Some(Status::Absent) => status_among(frame.depth, k, objects),
-        found => found,
+    let status = named_status(frame, k, objects)?;
+    if is_absent(status) {
+        status_among(frame.depth, k, objects)
+    } else {
+        Some(status)
     }
 }
 
 /// What is there of a token; none where an object is in a state of a number of 32 or more.
 pub fn first_status(frame: &Frame, objects: &[Object], tok: Tok) -> Option<Status>
-    ensures some { IfSome result (λ s. status_of s
+    ensures some { IfSome result (λ x. status_of x
         ≡ s.held_map (frame_view frame.now) (objects_view objects.now) (tok_of tok)) }
     ensures none { result ≡ None → HasHighState (objects_view objects.now) }
 {
