@@ -5,7 +5,7 @@ use Rattle.vlt_meaning.specs.World.{Outcome, done, fault, event_text}
 use Rattle.vlt_meaning.specs.Run.{ran_of, start, first_frame}
 use Rattle.vlt_trace_meaning.specs.Machine as m
 use Rattle.vlt_trace_meaning.specs.Frames.{frames_in, setup, IsTrace}
-use Rattle.vlt_trace_blame.specs.Blame.{Unmet, IsBlamed}
+use Rattle.vlt_blame_meaning.specs.Blame.{Unmet, IsBlamed}
 
 -- the functions under way, with their places, the inner first
 pub record IsTraced (p : Program) (fuel heap depth : ℕ) (input : List ℤ) (answers : List (List ℤ)) (t : Told) : Type 0 where

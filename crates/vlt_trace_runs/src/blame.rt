@@ -4,7 +4,7 @@ use std::alloc::Global;
 use vlt_core::Func;
 use vlt_keyset::TokenFault;
 use vlt_rows::RowError;
-use vlt_trace_blame::{blame_back, blame_end, blame_form, blame_turn, blame_unfocus};
+use vlt_blame::{blame_back, blame_end, blame_form, blame_turn, blame_unfocus};
 use vlt_trace_moves::{At, Conf, Task};
 use vlt_trace_worlds::Running;
 

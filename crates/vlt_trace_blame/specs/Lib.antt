@@ -1,4 +1,0 @@
-pub mod Blame
-pub mod Line
-pub mod Passing
-pub mod Samples
