@@ -55,6 +55,7 @@ fn one_state(state: u8) -> Option<StateSet>
 }
 
 /// An object, as the frame at a depth has it under a key; none where the number of its state is too high.
+#[tactic(auto, using(crate::proofs::UnderKeys::is_held_so, crate::proofs::UnderKeys::is_lent_so, crate::proofs::UnderKeys::is_absent_so))]
 fn object_status(depth: u32, k: KeyId, o: &Object) -> Option<Status>
     ensures some { IfSome result (λ x.
         status_of x ≡ s.status_of depth k.0 (object_view o.now)) }

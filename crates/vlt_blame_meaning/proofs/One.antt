@@ -1,5 +1,5 @@
 -- Of rows and what is there just one thing is told.
-use Rattle.std.proofs.Common.{◌≡◌, List, [], ◌∷◌, Option, Some, None, inl, inr, refl, sym, ap, ◌∙◌}
+use Rattle.std.proofs.Common.{◌≡◌, List, [], ◌∷◌, Some, None, inl, inr, refl, sym, ap, ◌∙◌}
 use Rattle.vlt_core.specs.Maps.{HeldMap, Row, CanPass, row_passed}
 use Rattle.vlt_blame_meaning.specs.Blame.{Unmet, IsFirstUnmet}
 use Rattle.vlt_blame_meaning.specs.Laws.{TellsOne}
