@@ -2,7 +2,7 @@
 
 ghost use Rattle.std.specs.Prelude.{◌≡◌, [], List, None, IfSome};
 ghost use Rattle.vlt_core.specs.HeldView.{status_of};
-ghost use Rattle.vlt_core.specs.Maps.{Row};
+ghost use Rattle.vlt_core.specs.Maps as maps;
 ghost use Rattle.vlt_core.specs.View.{tok_of};
 ghost use Rattle.vlt_rows.specs.Taking.{TookOrStopped};
 ghost use Rattle.vlt_blame.specs.Passing.{map_seen, first_map, objects_seen, HasHighState, IsPassed, IsStopped, IsTold};
@@ -84,7 +84,7 @@ pub fn see<'a>(alloc: Global, frame: &'a Frame, objects: &'a [Object]) -> Seen<'
 
 /// Which row isn't met, by what became of them all.
 pub fn tell(seen: &Seen<'_>, passed: Result<(), RowError>) -> Result<Option<TokenFault>, RowError>
-    ensures { (rs : List Row) (first : Seen) → first.rows ≡ [] →
+    ensures { (rs : List maps.Row) (first : Seen) → first.rows ≡ [] →
         TookOrStopped IsPassed IsStopped rs first seen.now passed →
         IsTold rs (first_map first) (objects_seen first) result }
 {
