@@ -30,7 +30,7 @@ same_tok (a_var v) (a_key j) e = absurd (false_true e)
     false_true e = cc
 same_tok (a_var v) (a_var w) e = ap a_var (grind (arith, nat_tests, e))
 
-pub status_through : Tok → List Row → Status → Status
+abbrev pub status_through : Tok → List Row → Status → Status
 status_through t [] s = s
 status_through t (r ∷ rs) s = status_through t rs (if is_tok t r.tok then status_after r.after s else s)
 

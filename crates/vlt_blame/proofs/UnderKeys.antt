@@ -13,7 +13,7 @@ use Rattle.vlt_blame.specs.Passing.{HasHighState}
 -- ---- one object
 
 module _ (d k : ℕ) (o : w.Object) where
-  by_tests : (held_so lent_so : Bool) → Status
+  abbrev by_tests : (held_so lent_so : Bool) → Status
   by_tests a b = if a then held (λ s. s == o.state) else if b then lent (λ s. s == o.state) else absent
 
   pub is_held_so : (s : StateSet) → is_held_under d k o.owner ≡ true → has_state s ≡ (λ i. i == o.state) → held (has_state s) ≡ status_of d k o
