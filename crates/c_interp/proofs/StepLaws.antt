@@ -12,7 +12,7 @@ use Rattle.c_machine.specs.Machine.{Next, State, vars_in}
 use Rattle.c_memory.specs.Shown.{blocks_of}
 use Rattle.c_values.specs.declared.value.Value.{Value}
 use Rattle.c_values.specs.declared.value.Value.TheVariants.{Number, Reference}
-use Rattle.c_values.specs.Shown.{value_view, IsValue, AreMadeSlots, IsMadeValue}
+use Rattle.c_values.specs.Shown.{value_view, IsValue, IsNumberOf, AreMadeSlots, IsMadeValue}
 use Rattle.c_primitives.specs.declared.world.World.{World}
 use Rattle.c_primitives.specs.Shown.{Shows}
 use Rattle.vlt_steps.specs.Writing.{Outside}
@@ -35,6 +35,10 @@ number_is ts (Ok (Reference p)) (Ok v) e = ap (λ y. a_number y) e.0
 number_is ts (Ok a) (Err q) e = absurd e
 number_is ts (Err q) (Ok v) e = absurd e
 number_is ts (Err q) (Err p) e = ap (λ y. Err y) e
+
+-- the short way gives the number of a condition
+pub number_condition : (w : model.World) (f : Frames) (e : Expr) (vars : model.Vars) (z : ℤ) → vars ≡ vars_in (state_of f w) → IsNumberOf e vars z → Ok z ≡ (value_of e (vars_in (state_of f w)) w.blocks >>= a_number)
+number_condition w f e vars z same h = sym (ap (λ x. x >>= a_number) (subst (λ v. value_of e v w.blocks ≡ Ok (model.number z)) same (h w.blocks)))
 
 pub condition_is : (ts : Things) (s : World) (w : model.World) (f : Frames) (e : Expr) (r : Result Value ℕ) (q : Result ℤ ℕ) → Shows s ts w → q ≡ as_number r → IsValue ts r (value_of e (vars_in (state_of f w)) (blocks_of s.blocks ts)) → q ≡ (value_of e (vars_in (state_of f w)) w.blocks >>= a_number)
 condition_is ts s w f e r q h is v = is ∙ number_is ts r (value_of e (vars_in (state_of f w)) (blocks_of s.blocks ts)) v ∙ ap (λ bs. value_of e (vars_in (state_of f w)) bs >>= a_number) (sym h.blocks)

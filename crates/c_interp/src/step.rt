@@ -1,13 +1,13 @@
 //! The moves of the machine.
 
-ghost use Rattle.std.specs.Prelude.{◌≡◌, ◌<◌, ◌≤◌, ◌+◌, ◌∷◌, Some, length, option_map, vec_capacity};
+ghost use Rattle.std.specs.Prelude.{◌≡◌, ◌<◌, ◌≤◌, ◌+◌, ◌∷◌, Some, length, min, true, option_map, vec_capacity};
 ghost use Rattle.vlt_rings.specs.Things.{Things};
 ghost use Rattle.vlt_ops.specs.Operator as operator;
 ghost use Rattle.c_syntax.specs.C as c;
 ghost use Rattle.c_syntax.specs.View.{expr_of, stmt_of, stmts_of};
 ghost use Rattle.c_meaning.specs.World as model;
 ghost use Rattle.c_meaning.specs.Run as run;
-ghost use Rattle.c_meaning.specs.Run.{count_in};
+ghost use Rattle.c_meaning.specs.Run.{count_in, count_in_stmt};
 ghost use Rattle.c_machine.specs.Machine as m;
 ghost use Rattle.c_values.specs.Shown.{AreMadeSlots};
 ghost use Rattle.c_primitives.specs.Shown.{IsReady, Shows};
@@ -24,7 +24,7 @@ use c_machine::{list_count, stmt_count};
 use c_primitives::World;
 use c_syntax::rules::UNSET;
 use c_syntax::{CExpr, CStmt};
-use c_values::{Value, eval};
+use c_values::{Value, eval, number};
 use vlt_io::Sink;
 use vlt_steps::{Stop, put};
 
@@ -36,7 +36,11 @@ fn condition(e: &CExpr, frames: &Frames, world: &World) -> Result<i64, u8>
         AreMadeSlots things frames.now.values.items →
         result ≡ run.condition (expr_of e.now) (m.frame_in (state_of frames.now w)) w }
 {
-    match eval(e, frames.vars(), &world.blocks) {
+    let vars = frames.vars();
+    if let Some(z) = number(e, &vars) {
+        return Ok(z);
+    }
+    match eval(e, vars, &world.blocks) {
         Ok(Value::Number(z)) => Ok(z),
         Ok(Value::Reference(_)) => Err(UNSET),
         Err(rule) => Err(rule),
@@ -55,6 +59,37 @@ fn broken(rule: u8, n: u32) -> Option<CStop>
     ensures { result ≡ Some (CStop.Undefined rule n) }
 {
     Some(CStop::Undefined { rule, statement: n })
+}
+
+/// Whether a statement has none inside.
+#[inline(always)]
+fn is_alone(x: &CStmt) -> bool
+    ensures { result ≡ true → count_in_stmt (stmt_of x.now) ≡ 1 }
+{
+    !matches!(x, CStmt::If(..) | CStmt::IfElse(..) | CStmt::While(_))
+}
+
+/// The statements in what an `if` does, which mostly is one without others inside: it wants no call.
+#[inline(always)]
+fn count_done(xs: &[CStmt]) -> u32
+    ensures { result ≡ min (count_in (stmts_of xs.now)) 4294967295 }
+{
+    match xs {
+        [x] if is_alone(x) => 1,
+        _ => list_count(xs),
+    }
+}
+
+/// The statements in a statement, itself included. Most have none inside, or one.
+#[inline(always)]
+fn count_of(x: &CStmt) -> u32
+    ensures { result ≡ min (count_in_stmt (stmt_of x.now)) 4294967295 }
+{
+    match x {
+        CStmt::If(_, xs) => count_done(xs.as_slice()).saturating_add(1),
+        CStmt::IfElse(..) | CStmt::While(_) => stmt_count(x),
+        _ => 1,
+    }
 }
 
 /// A statement that does others or none.
@@ -261,7 +296,7 @@ pub fn step<'a, K: Sink>(
     match tasks.pop() {
         Some(Task::List(n, stmts)) => match stmts.split_first() {
             Some((first, rest)) => {
-                put(tasks, Task::List(n + stmt_count(first), rest));
+                put(tasks, Task::List(n + count_of(first), rest));
                 act(rules, n, first, tasks, frames, world, sink)
             }
             None => None,

@@ -40,7 +40,7 @@ returns-in-Some g c =
       slots = came.slots;
       comes = λ things w h made.
           subst (λ l. CameTo w (record { written = g.K.Sink.written c.args.sink.now; faults = g.K.Sink.faults c.args.sink.now }) (record { written = g.K.Sink.written c.act.new.sink; faults = g.K.Sink.faults c.act.new.sink }) c.act.result c.act.new.tasks.items c.act.new.frames c.act.new.world (m.move_of (setup_of c.args.rules.now) l (state_of c.args.frames.now w))) (sym (popped _ _ _ _ c.in-Some-List.ensures.items c.in-Some-List.field-0-is ∙ ap (λ l. m.list c.in-Some-List.n (stmts_of l) ∷ tasks_of c.pop.new.self.items) c.in-Some.ensures.cases.0))
-          (subst (λ l. CameTo w (record { written = g.K.Sink.written c.args.sink.now; faults = g.K.Sink.faults c.args.sink.now }) (record { written = g.K.Sink.written c.act.new.sink; faults = g.K.Sink.faults c.act.new.sink }) c.act.result c.act.new.tasks.items c.act.new.frames c.act.new.world (m.act (setup_of c.args.rules.now) c.in-Some-List.n (stmt_of c.in-Some.first.now) l (state_of c.args.frames.now w))) (rest_pushed c.pop.new.self.items c.put.new.items.items c.in-Some-List.n c.stmt_count.result c.in-Some.first.now c.in-Some.rest (let k = list_number c.args.rules.now c.args.tasks.now.items _ c.args.frames.now c.args.world.now c.requires.room c.in-Some-List.n (cc.next (stmt_of c.in-Some.first.now) (stmts_of c.in-Some.rest.now)) (tasks_of c.pop.new.self.items) (popped _ _ _ _ c.in-Some-List.ensures.items c.in-Some-List.field-0-is ∙ ap (λ l. m.list c.in-Some-List.n (stmts_of l) ∷ tasks_of c.pop.new.self.items) c.in-Some.ensures.cases.0) in omega (arith, k)) c.stmt_count.ensures c.put.ensures.items) (came.comes things w h made));
+          (subst (λ l. CameTo w (record { written = g.K.Sink.written c.args.sink.now; faults = g.K.Sink.faults c.args.sink.now }) (record { written = g.K.Sink.written c.act.new.sink; faults = g.K.Sink.faults c.act.new.sink }) c.act.result c.act.new.tasks.items c.act.new.frames c.act.new.world (m.act (setup_of c.args.rules.now) c.in-Some-List.n (stmt_of c.in-Some.first.now) l (state_of c.args.frames.now w))) (rest_pushed c.pop.new.self.items c.put.new.items.items c.in-Some-List.n c.count_of.result c.in-Some.first.now c.in-Some.rest (let k = list_number c.args.rules.now c.args.tasks.now.items _ c.args.frames.now c.args.world.now c.requires.room c.in-Some-List.n (cc.next (stmt_of c.in-Some.first.now) (stmts_of c.in-Some.rest.now)) (tasks_of c.pop.new.self.items) (popped _ _ _ _ c.in-Some-List.ensures.items c.in-Some-List.field-0-is ∙ ap (λ l. m.list c.in-Some-List.n (stmts_of l) ∷ tasks_of c.pop.new.self.items) c.in-Some.ensures.cases.0) in omega (arith, k)) c.count_of.ensures c.put.ensures.items) (came.comes things w h made));
     }
 
 pub returns-in-None-split_first : goal.returns-in-None-split_first
@@ -100,7 +100,7 @@ returns-in-Some-Bottom g c = record {
 pub overflow_add-n : goal.overflow_add-n
 overflow_add-n g c =
     let k = list_number c.args.rules.now c.args.tasks.now.items _ c.args.frames.now c.args.world.now c.requires.room c.in-Some-List.n (cc.next (stmt_of c.in-Some.first.now) (stmts_of c.in-Some.rest.now)) (tasks_of c.pop.new.self.items) (popped _ _ _ _ c.in-Some-List.ensures.items c.in-Some-List.field-0-is ∙ ap (λ l. m.list c.in-Some-List.n (stmts_of l) ∷ tasks_of c.pop.new.self.items) c.in-Some.ensures.cases.0) in
-    let l = c.stmt_count.ensures in
+    let l = c.count_of.ensures in
     omega (arith, k, l)
 
 pub returns-in-None : goal.returns-in-None
