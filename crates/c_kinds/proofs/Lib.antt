@@ -5,4 +5,6 @@ pub mod Turns
 pub mod Declared
 pub mod Main
 pub mod Ordered
+pub mod Keys
 pub mod Within
+pub mod Tables

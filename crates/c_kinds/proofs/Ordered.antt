@@ -1,10 +1,11 @@
 -- Functions in the order of their names: what is found at a place, and what isn't found before it.
-use Rattle.std.proofs.Common.{◌≡◌, ◌<◌, ℕ, zero, suc, ◌==◌, ◌&&◌, ◌||◌, Bool, true, false, not, nat_lt, if◌then◌else◌, List, [], ◌∷◌, map, length, take, slice_get, Some, refl, sym, ap, ap₂, ◌∙◌, subst, arith}
+use Rattle.std.proofs.Common.{◌≡◌, ◌<◌, ℕ, zero, suc, ◌==◌, ◌&&◌, ◌||◌, Bool, true, false, not, nat_lt, if◌then◌else◌, List, [], ◌∷◌, map, length, take, slice_get, Option, Some, None, IfSome, refl, sym, ap, ap₂, ◌∙◌, subst, arith}
 use Rattle.std.proofs.Math.ListN.{get_or}
 use Rattle.std.proofs.lemmas.Bool.{false≢true}
 use Rattle.std.proofs.lemmas.Bool.Decides.{nat_tests}
 use Rattle.std.proofs.lemmas.Option.{slice_get-map, slice_get_read}
-use Rattle.std.specs.Option.{option_map}
+use Rattle.std.specs.Option.{option_map, is_some}
+use Rattle.std.specs.Prelude.{MatchOption}
 use Rattle.std.proofs.lemmas.List.{take-map}
 use Rattle.c_syntax.specs.declared.program.CName.{CName}
 use Rattle.c_syntax.specs.Unit as unit
@@ -14,7 +15,9 @@ use Rattle.c_parser.specs.declared.unit.Body.{Body}
 use Rattle.c_parser.specs.View as view
 use Rattle.c_parser.specs.View.{body_of}
 use Rattle.c_kinds.specs.Order.{is_before, ascend_after, ascend, AreOrderedIf}
+use Rattle.c_kinds.specs.Keys.{place_of, is_place}
 use Rattle.c_kinds.proofs.Main.{and_left, and_right, names_same}
+use Rattle.c_kinds.proofs.Keys.{new_at_first, head_by_place, at_place}
 
 -- ---- names
 
@@ -124,6 +127,39 @@ body_is_new true bs i b a t within there =
     let same : heads_of (map body_of (take i bs)) ≡ take i (heads_of (map body_of bs)) = ap heads_of (sym (take-map body_of i bs)) ∙ sym (take-map (λ c. c.head) i (map body_of bs)) in
     sym (ap not (ap (has_name b.head.name) same ∙ none))
 body_is_new false bs i b a t within there = absurd (false≢true t)
+
+-- the place of a head is the first of its name, or its name isn't new there
+pub head_is_first : (hs : List Head) (i : ℕ) (h : Head) → i < length hs → h ≡ get_or hs i h
+    → is_place (place_of h.name (map view.head_of hs)) i ≡ not (has_name h.name (map view.head_of (take i hs)))
+head_is_first hs i h within there =
+    new_at_first (map view.head_of hs) i (view.head_of h) (head_at hs i h (slice_get_read hs (length hs) i h refl within there))
+    ∙ ap not (ap (has_name h.name) (take-map view.head_of i hs))
+
+pub body_is_first : (bs : List Body) (i : ℕ) (b : Body) → i < length bs → b ≡ get_or bs i b
+    → is_place (place_of b.head.name (heads_of (map body_of bs))) i ≡ not (has_name b.head.name (heads_of (map body_of (take i bs))))
+body_is_first bs i b within there =
+    let same : heads_of (map body_of (take i bs)) ≡ take i (heads_of (map body_of bs)) = ap heads_of (sym (take-map body_of i bs)) ∙ sym (take-map (λ c. c.head) i (map body_of bs)) in
+    new_at_first (heads_of (map body_of bs)) i (body_of b).head (body_at bs i b (slice_get_read bs (length bs) i b refl within there))
+    ∙ ap not (ap (has_name b.head.name) (sym same))
+
+none_there : {A : Type 0} (xs : List A) (i : ℕ) → nat_lt i (length xs) ≡ false → slice_get xs i ≡ None
+none_there [] i e = refl
+none_there (x ∷ xs) zero e = absurd (first (length xs) e)
+  where
+    first : (n : ℕ) → nat_lt zero (suc n) ≡ false → ⊥
+    first n e = grind (arith, nat_tests, e)
+none_there (x ∷ xs) (suc i) e = none_there xs i (later i (length xs) ∙ e)
+  where
+    later : (i n : ℕ) → nat_lt i n ≡ nat_lt (suc i) (suc n)
+    later i n = grind (arith, nat_tests)
+
+-- what is read at the first place of a name is the first head of that name
+pub looked_up : {B : Type 0} (now : B → Head) (f : CName) (hs : List Head) (i : ℕ) (r : Option B) → is_some r ≡ nat_lt i (length hs) → IfSome r (λ x. now x ≡ get_or hs i (now x))
+    → place_of f (map view.head_of hs) ≡ Some i → MatchOption r (head_of f (map view.head_of hs) ≡ None) (λ x. head_of f (map view.head_of hs) ≡ Some (view.head_of (now x)))
+looked_up now f hs i None e there first =
+    head_by_place f (map view.head_of hs) ∙ ap (at_place (map view.head_of hs)) first ∙ slice_get-map view.head_of hs i ∙ ap (option_map view.head_of) (none_there hs i (sym e))
+looked_up now f hs i (Some x) e there first =
+    head_by_place f (map view.head_of hs) ∙ ap (at_place (map view.head_of hs)) first ∙ head_at hs i (now x) (read_at hs i (now x) (sym e) there)
 
 -- what is said is so
 pub said_so : (b : Bool) (hs : List unit.Head) → b ≡ ascend hs → AreOrderedIf b hs

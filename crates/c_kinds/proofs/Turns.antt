@@ -40,7 +40,7 @@ names_turn ds i d vs ws within grown =
     ∙ sym (ap (λ xs. vs ++ k.names_of (map declaration_of xs)) (one_left ds i d within))
 
 -- so many heads, and one more
-heads_grown : (hs : List Head) (i : ℕ) (h : Head) → i < length hs → h ≡ get_or hs i h → map head_of (take (i + 1) hs) ≡ map head_of (take i hs) ++ head_of h ∷ []
+pub heads_grown : (hs : List Head) (i : ℕ) (h : Head) → i < length hs → h ≡ get_or hs i h → map head_of (take (i + 1) hs) ≡ map head_of (take i hs) ++ head_of h ∷ []
 heads_grown hs i h within there =
     ap (map head_of) (one_taken hs i h within ∙ ap (λ x. take i hs ++ x ∷ []) (sym there)) ∙ map-append head_of (take i hs) (h ∷ [])
 
@@ -54,7 +54,7 @@ heads_turn bodies hs i h w v within there is =
     ∙ heads_next bodies before (head_of h) rest w
     ∙ sym (ap (λ xs. k.heads_judged bodies before (map head_of xs) w) (one_left hs i h within ∙ ap (λ x. x ∷ drop (i + 1) hs) (sym there)))
 
-heads_of_grown : (bs : List Body) (i : ℕ) (b : Body) → i < length bs → b ≡ get_or bs i b
+pub heads_of_grown : (bs : List Body) (i : ℕ) (b : Body) → i < length bs → b ≡ get_or bs i b
     → k.heads_of (map body_of (take (i + 1) bs)) ≡ k.heads_of (map body_of (take i bs)) ++ (body_of b).head ∷ []
 heads_of_grown bs i b within there =
     ap (λ xs. k.heads_of (map body_of xs)) (one_taken bs i b within ∙ ap (λ x. take i bs ++ x ∷ []) (sym there))

@@ -1,3 +1,6 @@
 pub mod View
 pub mod Order
+pub mod Keys
+pub mod Places
+pub mod Whole
 pub mod Laws

@@ -15,7 +15,7 @@ abbrev pub walk_of : Walk → k.Walk
 walk_of w = record { places = map (λ l. l.at) w.rest.now; least = option_map refusal_of w.least }
 
 abbrev pub scope_of : Scope → k.Scope
-scope_of s = record { heads = map head_of s.heads.list.now; name = s.name; result = s.result; declared = s.declared.now }
+scope_of s = record { heads = map head_of s.heads.list.now; name = s.name; result = s.result; declared = s.declared.now.list.items }
 
 abbrev pub wanted_of : Wanted → k.Wanted
 wanted_of (wanted.Value t) = k.value t

@@ -7,7 +7,7 @@ ghost use Rattle.c_parser.specs.View.{head_of, declaration_of};
 ghost use Rattle.c_kinds.specs.View.{scope_of, walk_of, wanted_of};
 
 use crate::heads::find_head;
-use crate::types::{Scope, Wanted, is_one_of, may_be, same_type, type_of};
+use crate::types::{Scope, Wanted, may_be, same_type, type_of};
 use crate::walk::Walk;
 use c_parser::Declaration;
 use c_syntax::{CArg, CCall, CName, CPrim, CResult};
@@ -57,7 +57,7 @@ fn fits(scope: &Scope<'_>, wanted: Wanted, arg: &CArg) -> bool
         (Wanted::TrapNumber, CArg::Number(value)) => *value == 1 || *value == 2,
         (Wanted::Text, CArg::Text(_)) => true,
         (Wanted::Numeral | Wanted::TrapNumber | Wanted::Text, CArg::Var(variable)) => {
-            !is_one_of(*variable, scope.declared)
+            !scope.declared.has(*variable)
         }
         _ => false,
     }

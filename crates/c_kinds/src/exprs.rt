@@ -6,7 +6,7 @@ ghost use Rattle.c_syntax.specs.Kinds as k;
 ghost use Rattle.c_syntax.specs.View.{expr_of};
 ghost use Rattle.c_kinds.specs.View.{scope_of, walk_of};
 
-use crate::types::{Scope, base_of, is_one_of, may_be};
+use crate::types::{Scope, base_of, may_be};
 use crate::walk::Walk;
 use c_syntax::{CCell, CExpr, CResult, CVar};
 
@@ -15,7 +15,7 @@ impl Walk<'_> {
         ensures { walk_of self.new ≡ k.variable_judged (scope_of scope.now) variable
             (walk_of self.old) }
     {
-        self.unless_here(is_one_of(variable, scope.declared), 1);
+        self.unless_here(scope.declared.has(variable), 1);
         self.skip(1);
     }
 

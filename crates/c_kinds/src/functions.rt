@@ -5,25 +5,27 @@ ghost use Rattle.c_syntax.specs.Kinds as k;
 ghost use Rattle.c_parser.specs.View.{body_of, declaration_of, head_of, unit_of};
 ghost use Rattle.c_kinds.specs.View.{walk_of};
 
+use crate::firsts::Places;
 use crate::heads::{
-    has_body, has_head, has_main, is_new_body, is_new_head, result_width, type_width,
+    are_paired, has_body, has_head, has_main, is_new_body, is_new_head, result_width, type_width,
 };
-use crate::order::{Heads, are_bodies_in_order};
-use crate::types::{Scope, is_one_of, same_bool};
+use crate::order::{Bodies, Heads};
+use crate::types::{Scope, same_bool};
+use crate::variables::Variables;
 use crate::walk::Walk;
+use crate::whole::HeadSet;
 use c_parser::{Body, Declaration, Head, Unit};
-use c_syntax::CVar;
 use std::alloc::Global;
 use vlt_base::Memory;
 
 impl Walk<'_> {
     /// A name that is declared after those names, with the sign after it.
-    fn declaration(&mut self, before: &[CVar], declaration: Declaration)
-        ensures { walk_of self.new ≡ k.declarations_judged before.now
+    fn declaration(&mut self, before: &Variables, declaration: Declaration)
+        ensures { walk_of self.new ≡ k.declarations_judged before.now.list.items
             (declaration_of declaration ∷ []) (walk_of self.old) }
     {
         self.skip(type_width(declaration.reference));
-        self.unless_here(!is_one_of(declaration.variable, before), 1);
+        self.unless_here(!before.has(declaration.variable), 1);
         self.unless_here(
             same_bool(declaration.reference, declaration.variable.reference),
             2,
@@ -34,30 +36,30 @@ impl Walk<'_> {
     /// Names that are declared after those names, to which they are added.
     fn declarations(
         &mut self,
-        names: &mut Vec<CVar>,
+        names: &mut Variables,
         declarations: &[Declaration],
     ) -> Result<(), Memory>
         ensures judged { IfOk result (λ u. walk_of self.new
-            ≡ k.declarations_judged names.old.items (map declaration_of declarations.now)
+            ≡ k.declarations_judged names.old.list.items (map declaration_of declarations.now)
             (walk_of self.old)) }
-        ensures names { IfOk result (λ u. names.new.items
-            ≡ names.old.items ++ k.names_of (map declaration_of declarations.now)) }
+        ensures names { IfOk result (λ u. names.new.list.items
+            ≡ names.old.list.items ++ k.names_of (map declaration_of declarations.now)) }
     {
         for &declaration in declarations {
-            self.declaration(names.as_slice(), declaration);
-            names.push(declaration.variable)?;
+            self.declaration(names, declaration);
+            names.add(declaration.variable)?;
         }
         Ok(())
     }
 
     /// Parameters with the closing parenthesis, and their names.
-    fn params(&mut self, alloc: Global, params: &[Declaration]) -> Result<Vec<CVar>, Memory>
+    fn params(&mut self, alloc: Global, params: &[Declaration]) -> Result<Variables, Memory>
         ensures judged { IfOk result (λ u. walk_of self.new
             ≡ k.params_judged (map declaration_of params.now) (walk_of self.old)) }
-        ensures names { IfOk result (λ names. names.items
+        ensures names { IfOk result (λ names. names.list.items
             ≡ k.names_of (map declaration_of params.now)) }
     {
-        let mut names = Vec::new(alloc);
+        let mut names = Variables::new(alloc);
         if params.is_empty() {
             self.skip(2);
         } else {
@@ -70,19 +72,19 @@ impl Walk<'_> {
     fn head(
         &mut self,
         alloc: Global,
-        bodies: &[Body],
+        bodies: Bodies<'_>,
         before: &[Head],
         head: &Head,
         new: bool,
     ) -> Result<(), Memory>
         requires { new ≡ not (k.has_name head.now.name (map head_of before.now)) }
         ensures { IfOk result (λ u. walk_of self.new
-            ≡ k.heads_judged (k.heads_of (map body_of bodies.now)) (map head_of before.now)
+            ≡ k.heads_judged (k.heads_of (map body_of bodies.entry.list.now)) (map head_of before.now)
             (head_of head.now ∷ []) (walk_of self.old)) }
     {
         self.skip(result_width(head.result));
         self.unless_here(new, 1);
-        self.unless_here(has_body(head, bodies, before.len()), 6);
+        self.unless_here(has_body(alloc, head, bodies, before.len())?, 6);
         self.skip(2);
         self.params(alloc, head.params.as_slice())?;
         self.skip(1);
@@ -90,14 +92,14 @@ impl Walk<'_> {
     }
 
     /// The heads before those functions.
-    fn heads(&mut self, alloc: Global, bodies: &[Body], heads: Heads<'_>) -> Result<(), Memory>
+    fn heads(&mut self, alloc: Global, bodies: Bodies<'_>, heads: Heads<'_>) -> Result<(), Memory>
         ensures { IfOk result (λ u. walk_of self.new ≡ k.heads_judged
-            (k.heads_of (map body_of bodies.now)) [] (map head_of heads.entry.list.now)
+            (k.heads_of (map body_of bodies.entry.list.now)) [] (map head_of heads.entry.list.now)
             (walk_of self.old)) }
     {
         let list = heads.list;
         for at in 0..list.len() {
-            let new = is_new_head(list, heads.in_order, at);
+            let new = is_new_head(heads, at);
             self.head(alloc, bodies, &list[..at], &list[at], new)?;
         }
         Ok(())
@@ -121,7 +123,7 @@ impl Walk<'_> {
         let head = &body.head;
         self.skip(result_width(head.result));
         self.unless_here(new, 6);
-        self.unless_here(has_head(head, heads.list, before.len()), 6);
+        self.unless_here(has_head(alloc, head, heads, before.len())?, 6);
         self.skip(2);
         let mut declared = self.params(alloc, head.params.as_slice())?;
         self.skip(1);
@@ -130,7 +132,7 @@ impl Walk<'_> {
             heads,
             name: head.name,
             result: head.result,
-            declared: declared.as_slice(),
+            declared: &declared,
         };
         self.stmts(&scope, false, body.stmts.as_slice());
         self.skip(1);
@@ -138,15 +140,15 @@ impl Walk<'_> {
     }
 
     /// The functions with their bodies, after those heads.
-    fn bodies(&mut self, alloc: Global, heads: Heads<'_>, bodies: &[Body]) -> Result<(), Memory>
+    fn bodies(&mut self, alloc: Global, heads: Heads<'_>, bodies: Bodies<'_>) -> Result<(), Memory>
         ensures { IfOk result (λ u. walk_of self.new
             ≡ k.bodies_judged (map head_of heads.entry.list.now)
-            [] (map body_of bodies.now) (walk_of self.old)) }
+            [] (map body_of bodies.entry.list.now) (walk_of self.old)) }
     {
-        let in_order = are_bodies_in_order(bodies);
-        for at in 0..bodies.len() {
-            let new = is_new_body(bodies, in_order, at);
-            self.body(alloc, heads, &bodies[..at], &bodies[at], new)?;
+        let list = bodies.list;
+        for at in 0..list.len() {
+            let new = is_new_body(bodies, at);
+            self.body(alloc, heads, &list[..at], &list[at], new)?;
         }
         Ok(())
     }
@@ -164,11 +166,18 @@ impl Walk<'_> {
         ensures { IfOk result (λ u. walk_of self.new
             ≡ k.unit_judged (unit_of unit.now) (walk_of self.old)) }
     {
-        let heads = Heads::new(&unit.heads);
+        let (list, functions) = (unit.heads.as_slice(), unit.bodies.as_slice());
+        let is_paired = are_paired(list, functions);
+        let head_places = Places::of_heads(alloc, list)?;
+        let head_set = HeadSet::of_heads_unless(is_paired, alloc, list)?;
+        let heads = Heads::new(list, &head_places, &head_set);
+        let body_places = Places::of_bodies(alloc, functions)?;
+        let body_set = HeadSet::of_bodies_unless(is_paired, alloc, functions)?;
+        let bodies = Bodies::new(functions, &body_places, &body_set);
         self.skip(3);
         self.main(unit);
         self.skip(2);
-        self.heads(alloc, &unit.bodies, heads)?;
-        self.bodies(alloc, heads, &unit.bodies)
+        self.heads(alloc, bodies, heads)?;
+        self.bodies(alloc, heads, bodies)
     }
 }

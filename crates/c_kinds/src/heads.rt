@@ -1,17 +1,19 @@
 //! Which heads are the same, and which are there.
 
-ghost use Rattle.std.specs.Prelude.{◌≡◌, ◌<◌, true, not, length, map, take, Some, None, IfSome, MatchOption};
+ghost use Rattle.std.specs.Prelude.{◌≡◌, ◌<◌, true, not, length, map, take, Some, None, IfOk, IfSome, MatchOption};
 ghost use Rattle.std.proofs.Math.ListN.{get_or};
 ghost use Rattle.c_syntax.specs.Kinds as k;
 ghost use Rattle.c_parser.specs.View.{body_of, declaration_of, head_of};
 ghost use Rattle.c_parser.specs.declared.unit.Head.{Head};
 ghost use Rattle.c_parser.specs.declared.unit.Body.{Body};
-ghost use Rattle.c_kinds.specs.Order.{AreOrderedIf};
+ghost use Rattle.c_kinds.specs.Keys.{is_place};
 
-use crate::order::Heads;
+use crate::order::{Bodies, Heads};
 use crate::types::{same_bool, same_name, same_type, same_variable};
 use c_parser::{Body, Declaration, Head};
 use c_syntax::{CName, CResult};
+use std::alloc::Global;
+use vlt_base::Memory;
 
 /// Whether parameters are the same, token by token.
 fn same_params(params: &[Declaration], others: &[Declaration]) -> bool
@@ -42,6 +44,16 @@ fn same_head(head: &Head, other: &Head) -> bool
         && same_params(head.params.as_slice(), other.params.as_slice())
 }
 
+/// Whether a place is that one.
+fn is_place(place: Option<usize>, at: usize) -> bool
+    ensures { result ≡ is_place place at }
+{
+    match place {
+        Some(first) => first == at,
+        None => false,
+    }
+}
+
 /// Whether one of these heads is the same.
 fn any_head(head: &Head, heads: &[Head]) -> bool
     ensures { result ≡ k.has_head (head_of head.now) (map head_of heads.now) }
@@ -65,10 +77,17 @@ fn is_head_at(head: &Head, heads: &[Head], at: usize) -> bool
 }
 
 /// Whether one of these heads is the same, most likely the one at that place.
-pub fn has_head(head: &Head, heads: &[Head], likely: usize) -> bool
-    ensures { result ≡ k.has_head (head_of head.now) (map head_of heads.now) }
+pub fn has_head(alloc: Global, head: &Head, heads: Heads<'_>, likely: usize) -> Result<bool, Memory>
+    ensures { IfOk result (λ b.
+        b ≡ k.has_head (head_of head.now) (map head_of heads.entry.list.now)) }
 {
-    is_head_at(head, heads, likely) || any_head(head, heads)
+    if is_head_at(head, heads.list, likely) {
+        return Ok(true);
+    }
+    match heads.whole {
+        Some(set) => set.has(alloc, head),
+        None => Ok(any_head(head, heads.list)),
+    }
 }
 
 /// Whether one of these functions with a body has the same head.
@@ -95,73 +114,46 @@ fn is_body_at(head: &Head, bodies: &[Body], at: usize) -> bool
 }
 
 /// Whether one of these functions with a body has the same head, most likely the one at that place.
-pub fn has_body(head: &Head, bodies: &[Body], likely: usize) -> bool
-    ensures { result ≡ k.has_head (head_of head.now) (k.heads_of (map body_of bodies.now)) }
+pub fn has_body(
+    alloc: Global,
+    head: &Head,
+    bodies: Bodies<'_>,
+    likely: usize,
+) -> Result<bool, Memory>
+    ensures { IfOk result (λ b.
+        b ≡ k.has_head (head_of head.now) (k.heads_of (map body_of bodies.entry.list.now))) }
 {
-    is_body_at(head, bodies, likely) || any_body(head, bodies)
-}
-
-/// Whether one of these heads has the name.
-fn has_name(name: CName, heads: &[Head]) -> bool
-    ensures { result ≡ k.has_name name (map head_of heads.now) }
-{
-    for head in heads {
-        if same_name(name, head.name) {
-            return true;
-        }
+    if is_body_at(head, bodies.list, likely) {
+        return Ok(true);
     }
-    false
-}
-
-/// Whether one of these functions with a body has the name.
-fn has_name_of_body(name: CName, bodies: &[Body]) -> bool
-    ensures { result ≡ k.has_name name (k.heads_of (map body_of bodies.now)) }
-{
-    for body in bodies {
-        if same_name(name, body.head.name) {
-            return true;
-        }
+    match bodies.whole {
+        Some(set) => set.has(alloc, head),
+        None => Ok(any_body(head, bodies.list)),
     }
-    false
 }
 
-/// Whether no head before that place has the name of the one there, where they may be known to be in order.
-pub fn is_new_head(heads: &[Head], in_order: bool, at: usize) -> bool
-    requires within { at < length heads.now }
-    requires order { AreOrderedIf in_order (map head_of heads.now) }
-    ensures { (h : Head) → h ≡ get_or heads.now at h →
-        result ≡ not (k.has_name h.name (map head_of (take at heads.now))) }
+/// Whether no head before that place has the name of the one there.
+pub fn is_new_head(heads: Heads<'_>, at: usize) -> bool
+    requires { at < length heads.list.now }
+    ensures { (h : Head) → h ≡ get_or heads.entry.list.now at h →
+        result ≡ not (k.has_name h.name (map head_of (take at heads.entry.list.now))) }
 {
-    if in_order {
+    if heads.in_order {
         return true;
     }
-    !has_name(heads[at].name, &heads[..at])
+    is_place(heads.places.find(heads.list[at].name), at)
 }
 
-/// Whether no function before that place has the name of the one there, where they may be known to be in order.
-pub fn is_new_body(bodies: &[Body], in_order: bool, at: usize) -> bool
-    requires within { at < length bodies.now }
-    requires order { AreOrderedIf in_order (k.heads_of (map body_of bodies.now)) }
-    ensures { (b : Body) → b ≡ get_or bodies.now at b →
-        result ≡ not (k.has_name b.head.name (k.heads_of (map body_of (take at bodies.now)))) }
+/// Whether no function before that place has the name of the one there.
+pub fn is_new_body(bodies: Bodies<'_>, at: usize) -> bool
+    requires { at < length bodies.list.now }
+    ensures { (b : Body) → b ≡ get_or bodies.entry.list.now at b → result
+        ≡ not (k.has_name b.head.name (k.heads_of (map body_of (take at bodies.entry.list.now)))) }
 {
-    if in_order {
+    if bodies.in_order {
         return true;
     }
-    !has_name_of_body(bodies[at].head.name, &bodies[..at])
-}
-
-/// The first of these heads that has the name.
-fn first_head<'a>(name: CName, heads: &'a [Head]) -> Option<&'a Head>
-    ensures { MatchOption result (k.head_of name (map head_of heads.now) ≡ None)
-        (λ h. k.head_of name (map head_of heads.now) ≡ Some (head_of h.now)) }
-{
-    for head in heads {
-        if same_name(name, head.name) {
-            return Some(head);
-        }
-    }
-    None
+    is_place(bodies.places.find(bodies.list[at].head.name), at)
 }
 
 /// The head at that place, if it is there and has the name. Heads in order have no other of the name.
@@ -191,6 +183,17 @@ fn head_in_order<'a>(name: CName, heads: Heads<'a>) -> Option<&'a Head>
     }
 }
 
+/// The first head of that name, looked up.
+fn first_head<'a>(name: CName, heads: Heads<'a>) -> Option<&'a Head>
+    ensures { MatchOption result (k.head_of name (map head_of heads.entry.list.now) ≡ None)
+        (λ h. k.head_of name (map head_of heads.entry.list.now) ≡ Some (head_of h.now)) }
+{
+    let Some(at) = heads.places.find(name) else {
+        return None;
+    };
+    heads.list.get(at)
+}
+
 /// The first head of that name.
 pub fn find_head<'a>(name: CName, heads: Heads<'a>) -> Option<&'a Head>
     ensures { MatchOption result (k.head_of name (map head_of heads.entry.list.now) ≡ None)
@@ -198,8 +201,23 @@ pub fn find_head<'a>(name: CName, heads: Heads<'a>) -> Option<&'a Head>
 {
     match head_in_order(name, heads) {
         Some(head) => Some(head),
-        None => first_head(name, heads.list),
+        None => first_head(name, heads),
     }
+}
+
+/// Whether each head has the function with its body at the same place.
+pub fn are_paired(heads: &[Head], bodies: &[Body]) -> bool {
+    let mut left = bodies;
+    for head in heads {
+        let Some((body, rest)) = left.split_first() else {
+            return false;
+        };
+        if !same_head(head, &body.head) {
+            return false;
+        }
+        left = rest;
+    }
+    left.is_empty()
 }
 
 /// Whether it is the head of the function that VR_MAIN stands for, without parameters.

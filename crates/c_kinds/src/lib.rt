@@ -12,13 +12,16 @@ ghost use Rattle.c_kinds.specs.View.{refusal_of};
 
 mod calls;
 mod exprs;
+mod firsts;
 mod functions;
 mod heads;
 mod laws;
 mod order;
 mod stmts;
 mod types;
+mod variables;
 mod walk;
+mod whole;
 
 use c_parser::Written;
 pub use laws::{refusals_are_within, unrefused_programs_can_run};

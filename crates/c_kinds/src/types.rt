@@ -6,6 +6,7 @@ ghost use Rattle.c_syntax.specs.View.{expr_of};
 ghost use Rattle.c_kinds.specs.View.{scope_of};
 
 use crate::order::Heads;
+use crate::variables::Variables;
 use c_syntax::{CArg, CCell, CExpr, CName, CPrim, CResult, CVar};
 
 /// What the body of a function sees.
@@ -16,7 +17,7 @@ pub struct Scope<'a> {
     pub name: CName,
     pub result: CResult,
     /// Its parameters and variables.
-    pub declared: &'a [CVar],
+    pub declared: &'a Variables,
 }
 
 /// What an argument has to be.
@@ -98,7 +99,7 @@ impl Scope<'_> {
     pub fn variable_type(&self, variable: CVar) -> Option<CResult>
         ensures { result ≡ k.variable_type (scope_of self.now) variable }
     {
-        if is_one_of(variable, self.declared) {
+        if self.declared.has(variable) {
             Some(type_of(variable))
         } else {
             None

@@ -29,16 +29,22 @@ class Costs(unittest.TestCase):
 
 
 class CTexts(Costs):
-    """Names of C texts are looked up one by one where functions stand in another order than their heads, and among a function's variables."""
+    """Names of C texts are looked up in sorted tables, wherever functions stand and however many variables one has."""
 
     def test_functions_in_another_order(self) -> None:
-        self.assertLess(self.cost("crun", "reversed.c", speed_texts.c_functions(8000, True), 0).seconds, 1.5)
+        self.assertLess(self.cost("crun", "reversed.c", speed_texts.c_functions(64_000, True), 0).seconds, 0.5)
 
     def test_many_variables(self) -> None:
-        self.assertLess(self.cost("crun", "variables.c", speed_texts.c_variables(16_000), 0).seconds, 3)
+        """The text is read whole before it is refused, since it has no certificate."""
+        self.assertLess(self.cost("verify", "variables.c", speed_texts.c_variables(64_000), 12).seconds, 0.5)
 
     def test_a_call_with_many_arguments(self) -> None:
-        self.assertLess(self.cost("crun", "parameters.c", speed_texts.c_parameters(16_000), 0).seconds, 3)
+        self.assertLess(self.cost("verify", "parameters.c", speed_texts.c_parameters(64_000), 12).seconds, 0.5)
+
+    def test_running_with_many_variables(self) -> None:
+        """A variable is looked for in a list each time that a statement has it."""
+        for text in (speed_texts.c_variables(16_000), speed_texts.c_parameters(16_000)):
+            self.assertLess(self.cost("crun", "many.c", text, 0).seconds, 1)
 
     def test_functions_in_order_take_time_by_their_number(self) -> None:
         less, more = (self.cost("crun", "ordered.c", speed_texts.c_functions(count, False), 0).seconds for count in (32_000, 128_000))

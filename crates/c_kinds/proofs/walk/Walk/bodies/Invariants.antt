@@ -6,5 +6,5 @@ use Rattle.c_kinds.proofs.walk.Walk.bodies.Given as goal
 
 abbrev pub invariant-loop-at : goal.invariant-loop-at
 invariant-loop-at l =
-    k.bodies_judged (map head_of l.heads.list.now) (k.heads_of (map body_of (take l.at l.bodies))) (map body_of (drop l.at l.bodies)) (walk_of l.self)
-    ≡ k.bodies_judged (map head_of l.heads.list.now) [] (map body_of l.bodies) (walk_of l.initial.self)
+    k.bodies_judged (map head_of l.heads.list.now) (k.heads_of (map body_of (take l.at l.bodies.list.now))) (map body_of (drop l.at l.bodies.list.now)) (walk_of l.self)
+    ≡ k.bodies_judged (map head_of l.heads.list.now) [] (map body_of l.bodies.list.now) (walk_of l.initial.self)

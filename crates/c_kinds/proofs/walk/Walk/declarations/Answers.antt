@@ -1,4 +1,4 @@
-use Rattle.std.proofs.Common.{false, ◌∙◌}
+use Rattle.std.proofs.Common.{false, refl, ◌∙◌}
 use Rattle.c_parser.specs.declared.unit.Declaration.{Declaration}
 use Rattle.c_kinds.specs.View.{walk_of}
 use Rattle.c_kinds.proofs.Turns.{declared_turn, names_turn}
@@ -9,11 +9,11 @@ loop-declaration-preserved c =
     let ds = c.args.declarations.now in
     let at = c.loop-declaration.declaration-index in
     let any : Declaration = record { reference = false; variable = record { reference = false; number = 0 } } in
-    let names = c.loop-declaration.names.items in
+    let names = c.loop-declaration.names.list.items in
     record {
       judged =
-          declared_turn ds at any c.as_slice.result.now names c.push.new.self.items (walk_of c.loop-declaration.self) (walk_of c.declaration.new.self)
-          c.loop-declaration-test.true c.as_slice.ensures.value c.in_ok-push.ensures.items c.declaration.ensures
+          declared_turn ds at any names names c.add.new.self.list.items (walk_of c.loop-declaration.self) (walk_of c.declaration.new.self)
+          c.loop-declaration-test.true refl c.in_ok-add.ensures c.declaration.ensures
           ∙ c.loop-declaration.invariant.judged;
-      names = names_turn ds at any names c.push.new.self.items c.loop-declaration-test.true c.in_ok-push.ensures.items ∙ c.loop-declaration.invariant.names;
+      names = names_turn ds at any names c.add.new.self.list.items c.loop-declaration-test.true c.in_ok-add.ensures ∙ c.loop-declaration.invariant.names;
     }

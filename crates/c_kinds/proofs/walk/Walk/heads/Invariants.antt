@@ -6,5 +6,5 @@ use Rattle.c_kinds.proofs.walk.Walk.heads.Given as goal
 
 abbrev pub invariant-loop-at : goal.invariant-loop-at
 invariant-loop-at l =
-    k.heads_judged (k.heads_of (map body_of l.bodies)) (map head_of (take l.at l.heads.list.now)) (map head_of (drop l.at l.heads.list.now)) (walk_of l.self)
-    ≡ k.heads_judged (k.heads_of (map body_of l.bodies)) [] (map head_of l.heads.list.now) (walk_of l.initial.self)
+    k.heads_judged (k.heads_of (map body_of l.bodies.list.now)) (map head_of (take l.at l.heads.list.now)) (map head_of (drop l.at l.heads.list.now)) (walk_of l.self)
+    ≡ k.heads_judged (k.heads_of (map body_of l.bodies.list.now)) [] (map head_of l.heads.list.now) (walk_of l.initial.self)

@@ -1,0 +1,12 @@
+use Rattle.std.proofs.Common.{◌≡◌, sym, subst}
+use Rattle.c_syntax.specs.Kinds.{same_name}
+use Rattle.c_kinds.specs.Keys.{one_more}
+use Rattle.c_kinds.specs.Places.{place_in}
+use Rattle.c_kinds.proofs.Tables.{head_places}
+use Rattle.c_kinds.proofs.firsts.Places.of_heads.Goals as goal
+
+pub loop-at-preserved : goal.loop-at-preserved
+loop-at-preserved c = λ f.
+    let one = c.index-heads-at.result in
+    head_places c.args.heads.now c.loop-at.at one f (place_in c.loop-at.places f) (place_in c.add.new.self f) c.loop-at-test.true c.index-heads-at.is (c.loop-at.invariant f)
+    (subst (λ x. place_in c.add.new.self f ≡ one_more (place_in c.loop-at.places f) (same_name f x.name) c.loop-at.at) (sym c.index-heads-at.is) (c.in_ok-add.ensures f))

@@ -1,7 +1,0 @@
-use Rattle.std.proofs.Common.{◌≡◌, drop, map}
-use Rattle.c_syntax.specs.Kinds as k
-use Rattle.c_parser.specs.View.{head_of}
-use Rattle.c_kinds.proofs.heads.has_name.Given as goal
-
-abbrev pub invariant-loop-head : goal.invariant-loop-head
-invariant-loop-head l = k.has_name l.name (map head_of (drop l.head-index l.heads)) ≡ k.has_name l.name (map head_of l.heads)
