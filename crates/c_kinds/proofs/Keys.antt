@@ -17,7 +17,7 @@ use Rattle.c_syntax.specs.declared.program.CName.{CName}
 use Rattle.c_syntax.specs.declared.program.CVar.{CVar}
 use Rattle.c_syntax.specs.Unit as unit
 use Rattle.c_syntax.specs.Unit.{Declaration}
-use Rattle.c_syntax.specs.Kinds.{same_bool, same_name, same_variable, same_type, same_params, same_head, has_head, has_name, head_of, is_one_of}
+use Rattle.c_syntax.specs.Kinds.{same_bool, same_name, same_variable, same_type, same_params, same_head, has_name, head_of, is_one_of}
 use Rattle.c_kinds.specs.Keys.{pair_cmp, place_of, one_more, is_place, result_number, params_key, head_key}
 
 -- ---- where two names, or two heads, are at one place of the order
