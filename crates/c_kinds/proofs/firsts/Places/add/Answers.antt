@@ -1,4 +1,4 @@
-use Rattle.std.proofs.Common.{◌≡◌, true, cond, None, Some, ap, ◌∙◌, sym}
+use Rattle.std.proofs.Common.{◌≡◌, cond, None, Some, ap, ◌∙◌, sym}
 use Rattle.c_syntax.specs.Kinds.{same_name}
 use Rattle.c_kinds.specs.Places.{place_in}
 use Rattle.c_kinds.proofs.Keys.{at_one_turned}
